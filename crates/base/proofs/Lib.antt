@@ -1,0 +1,4 @@
+pub mod Scan
+pub mod Tail
+pub mod Over
+pub mod Tests

@@ -1,0 +1,53 @@
+-- What tests say, and what equal constructors cannot be. Assumes nothing.
+use mathlib.Core.Path.{_≡_, refl, sym, ap₂, _∙_}
+use Prim.Native.Nat.{ℕ, zero, suc}
+use native.Mathlib.Omega.{arith}
+use mathlib.Core.Bool.{Bool, true, false, _&&_, _||_, false≢true}
+use mathlib.Core.List.{List, [], _∷_}
+use lib.Dec.{eqb, eqb·zero-suc, eqb·suc-zero, eqb·suc-suc}
+use borrow.Author.Tests.{eq-eqb, eqb-true}
+use Rattle.base.specs.Lists.{same}
+
+-- anything, where two constructors would be equal: `no (cc)`
+pub no {ℓ} : {X : Type ℓ} → _≡_ {A = ℕ} 0 1 → X
+no e = absurd (omega arith)
+
+-- a test, and what it says
+pub by-test {ℓ} : {X : Type ℓ} (t : Bool) → (t ≡ true → X) → (t ≡ false → X) → X
+by-test true f g = f refl
+by-test false f g = g refl
+
+pub and-both : (a b : Bool) → (a && b) ≡ true → (a ≡ true) × (b ≡ true)
+and-both true b e = (refl, e)
+and-both false b e = absurd (false≢true e)
+
+pub or-both : (a b : Bool) → (a || b) ≡ false → (a ≡ false) × (b ≡ false)
+or-both true b e = no (cc)
+or-both false b e = (refl, e)
+
+pub eqb-sym : (m n : ℕ) → eqb m n ≡ eqb n m
+eqb-sym zero zero = refl
+eqb-sym zero (suc n) = eqb·zero-suc n ∙ sym (eqb·suc-zero n)
+eqb-sym (suc m) zero = eqb·suc-zero m ∙ sym (eqb·zero-suc m)
+eqb-sym (suc m) (suc n) = eqb·suc-suc m n ∙ eqb-sym m n ∙ sym (eqb·suc-suc n m)
+
+-- ---- byte for byte the same
+
+pub same-refl : (s : List ℕ) → same s s ≡ true
+unfolding same
+same-refl [] = refl
+same-refl (b ∷ s) = rw (eq-eqb b b refl, same-refl s)
+
+pub same-true : (x y : List ℕ) → same x y ≡ true → x ≡ y
+unfolding same
+same-true [] [] e = refl
+same-true [] (b ∷ y) e = absurd (false≢true e)
+same-true (a ∷ x) [] e = absurd (false≢true e)
+same-true (a ∷ x) (b ∷ y) e = let p = and-both (eqb a b) (same x y) e in rw (eqb-true a b (p .0), same-true x y (p .1))
+
+pub same-sym : (x y : List ℕ) → same x y ≡ same y x
+unfolding same
+same-sym [] [] = refl
+same-sym [] (b ∷ y) = refl
+same-sym (a ∷ x) [] = refl
+same-sym (a ∷ x) (b ∷ y) = ap₂ _&&_ (eqb-sym a b) (same-sym x y)

@@ -1,0 +1,98 @@
+//! Paper 01, "Edits and the journal", its last paragraph: the book of demand 3.
+
+use crate::edit::{edit, edit_within, Request};
+use crate::refusal::Refusal;
+
+/// "It keeps two lists of requests, standing and waiting, empty at first."
+#[derive(Debug, Clone)]
+pub struct Book {
+    start: Vec<u8>,
+    file_room: usize,
+    journal_room: usize,
+    standing: Vec<Request>,
+    waiting: Vec<Request>,
+}
+
+impl Book {
+    /// The book "is fed the starting file, both buffer sizes and the calls".
+    pub fn new(start: &[u8], file_room: usize, journal_room: usize) -> Book {
+        Book {
+            start: start.to_vec(),
+            file_room,
+            journal_room,
+            standing: Vec::new(),
+            waiting: Vec::new(),
+        }
+    }
+
+    /// A set with group, key and text.
+    pub fn set(&mut self, group: &[u8], key: &[u8], text: &[u8]) -> Result<(), Refusal> {
+        self.ask(Request::Set {
+            group: group.to_vec(),
+            key: key.to_vec(),
+            text: text.to_vec(),
+        })
+    }
+
+    /// A remove with group and key.
+    pub fn remove(&mut self, group: &[u8], key: &[u8]) -> Result<(), Refusal> {
+        self.ask(Request::Remove {
+            group: group.to_vec(),
+            key: key.to_vec(),
+        })
+    }
+
+    /// "Undo: 12 if none stands; else the last standing becomes the first waiting."
+    pub fn undo(&mut self) -> Result<(), Refusal> {
+        let request = self.standing.pop().ok_or(Refusal::new(12))?;
+        self.waiting.insert(0, request);
+        Ok(())
+    }
+
+    /// "Redo: 12 if none waits; else the first waiting becomes the last standing."
+    pub fn redo(&mut self) -> Result<(), Refusal> {
+        if self.waiting.is_empty() {
+            return Err(Refusal::new(12));
+        }
+        self.standing.push(self.waiting.remove(0));
+        Ok(())
+    }
+
+    /// "Its file is the starting bytes after the standing requests, in order."
+    pub fn file(&self) -> Vec<u8> {
+        self.replay().0
+    }
+
+    /// "Its standing number sums those requests' record lengths."
+    pub fn standing(&self) -> u64 {
+        self.replay().1
+    }
+
+    /// "The first of 7, 10, 8, 6, 17, 11, 13 that applies refuses; else the request becomes the last standing, and none waits."
+    fn ask(&mut self, request: Request) -> Result<(), Refusal> {
+        let (file, standing) = self.replay();
+        edit_within(
+            &file,
+            &request,
+            self.file_room,
+            self.journal_room,
+            standing,
+        )?;
+        self.standing.push(request);
+        self.waiting.clear();
+        Ok(())
+    }
+
+    /// The file and the standing number, from the start; a request that stands was accepted after those before it.
+    fn replay(&self) -> (Vec<u8>, u64) {
+        let mut file = self.start.clone();
+        let mut standing = 0;
+        for request in &self.standing {
+            if let Ok(edit) = edit(&file, request) {
+                file = edit.apply(&file);
+                standing += edit.record_length();
+            }
+        }
+        (file, standing)
+    }
+}

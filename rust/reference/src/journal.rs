@@ -1,0 +1,123 @@
+//! Paper 01, "Edits and the journal": set, remove, undo and redo over the lent buffers.
+
+use crate::edit::{edit_within, replace, Request};
+use crate::file::check;
+use crate::records::{read_journal, write_journal_record, Record};
+use crate::refusal::{Refusal, FILE_BOUND, RECORDS_BOUND};
+
+/// The two lent buffers, the file's length, and the journal's two numbers: bytes used and bytes standing.
+#[derive(Debug, Clone, PartialEq, Eq)]
+pub struct State {
+    pub file: Vec<u8>,
+    pub file_len: u64,
+    pub journal: Vec<u8>,
+    pub used: u64,
+    pub standing: u64,
+}
+
+/// Set: the value of a key with its postfix becomes the text.
+pub fn set(s: &mut State, group: &[u8], key: &[u8], text: &[u8]) -> Result<(), Refusal> {
+    let request = Request::Set {
+        group: group.to_vec(),
+        key: key.to_vec(),
+        text: text.to_vec(),
+    };
+    perform(s, &request)
+}
+
+/// Remove: the line of a key with its postfix goes.
+pub fn remove(s: &mut State, group: &[u8], key: &[u8]) -> Result<(), Refusal> {
+    let request = Request::Remove {
+        group: group.to_vec(),
+        key: key.to_vec(),
+    };
+    perform(s, &request)
+}
+
+/// "A set or remove writes at standing; both numbers are then its record's end."
+fn perform(s: &mut State, request: &Request) -> Result<(), Refusal> {
+    let (file, _) = sound(s)?;
+    let edit = edit_within(file, request, s.file.len(), s.journal.len(), s.standing)?;
+    let result = edit.apply(file);
+    let record = write_journal_record(edit.place as u32, &edit.old, &edit.new);
+    let start = s.standing as usize;
+    let end = start + record.len();
+    s.journal[start..end].copy_from_slice(&record);
+    s.used = end as u64;
+    s.standing = end as u64;
+    put_file(s, &result);
+    Ok(())
+}
+
+/// Undo: the record that ends at standing, its new bytes replaced by its old; 12 if nothing stands.
+pub fn undo(s: &mut State) -> Result<(), Refusal> {
+    let (file, records) = sound(s)?;
+    let ends_there = |record: &&Record| record.end as u64 == s.standing;
+    let record = records.iter().find(ends_there).ok_or(Refusal::new(12))?;
+    let result = exchange(file, record.place, record.new, record.old, s.file.len())?;
+    s.standing = record.start as u64;
+    put_file(s, &result);
+    Ok(())
+}
+
+/// Redo: the record that starts at standing, its old bytes replaced by its new; 12 if nothing waits.
+pub fn redo(s: &mut State) -> Result<(), Refusal> {
+    let (file, records) = sound(s)?;
+    let starts_there = |record: &&Record| record.start as u64 == s.standing;
+    let record = records.iter().find(starts_there).ok_or(Refusal::new(12))?;
+    let result = exchange(file, record.place, record.old, record.new, s.file.len())?;
+    s.standing = record.end as u64;
+    put_file(s, &result);
+    Ok(())
+}
+
+/// The file and the records, after "lengths (14)", 1 to 6 of the file, and the "journal (14)".
+fn sound(s: &State) -> Result<(&[u8], Vec<Record<'_>>), Refusal> {
+    let beyond = s.file_len > s.file.len() as u64 || s.used > s.journal.len() as u64;
+    if beyond || s.used > RECORDS_BOUND || s.used < s.standing {
+        return Err(Refusal::new(14));
+    }
+    let file = &s.file[..s.file_len as usize];
+    check(file)?;
+    let records = read_journal(&s.journal[..s.used as usize]).ok_or(Refusal::new(14))?;
+    let boundary = |record: &Record| record.end as u64 == s.standing;
+    if s.standing != 0 && !records.iter().any(boundary) {
+        return Err(Refusal::new(14));
+    }
+    Ok((file, records))
+}
+
+/// Undo and redo "ask in turn": the bytes stand at the place, else 14; room, else 11; the result well formed, else 14.
+fn exchange(
+    file: &[u8],
+    place: u64,
+    from: &[u8],
+    to: &[u8],
+    room: usize,
+) -> Result<Vec<u8>, Refusal> {
+    if place + from.len() as u64 > file.len() as u64 {
+        return Err(Refusal::new(14));
+    }
+    let place = place as usize;
+    if &file[place..place + from.len()] != from {
+        return Err(Refusal::new(14));
+    }
+    let result = replace(file, place, from.len(), to);
+    if result.len() as u64 > FILE_BOUND.min(room as u64) {
+        return Err(Refusal::new(11));
+    }
+    if check(&result).is_err() {
+        return Err(Refusal::new(14));
+    }
+    Ok(result)
+}
+
+/// "A file that shrinks has zeros up to its old length; bytes past both lengths keep theirs."
+fn put_file(s: &mut State, result: &[u8]) {
+    let old_length = s.file_len as usize;
+    s.file[..result.len()].copy_from_slice(result);
+    if result.len() < old_length {
+        s.file[result.len()..old_length].fill(0);
+    }
+    s.file_len = result.len() as u64;
+}

@@ -1,0 +1,23 @@
+//! A second, independent reading of paper 01 in plain Rust, to compare answers with.
+//! It follows the sentences of the paper one by one and does not try to be fast.
+
+#![forbid(unsafe_code)]
+
+pub mod book;
+pub mod edit;
+pub mod exec;
+pub mod file;
+pub mod journal;
+pub mod lines;
+pub mod locale;
+pub mod records;
+pub mod refusal;
+pub mod text;
+
+pub use book::Book;
+pub use exec::{expand, runs};
+pub use file::{check, complete, lookup};
+pub use journal::{redo, remove, set, undo, State};
+pub use locale::choose;
+pub use refusal::Refusal;
+pub use text::{read_list, read_text, write_text};

@@ -1,0 +1,102 @@
+//! Paper 01, "Language, escapes, lists", the part on language; and the form of LOCALE.
+
+use crate::file::{check, find_entry, find_group, read_groups};
+use crate::lines::{is_group, is_key_byte, skip, split_key, Part};
+use crate::refusal::Refusal;
+
+/// "LOCALE is lang, then perhaps `_`COUNTRY, `.`ENCODING, `@`MODIFIER in that order"; parts count in the bytes read.
+pub struct Locale {
+    pub lang: Part,
+    pub country: Option<Part>,
+    pub encoding: Option<Part>,
+    pub modifier: Option<Part>,
+    pub end: usize,
+}
+
+/// Reads a LOCALE that starts at `start`, as far as it goes; Err is the byte where a part should be and is not.
+pub fn read_locale(bytes: &[u8], start: usize) -> Result<Locale, usize> {
+    let lang = read_part(bytes, start)?;
+    let mut end = lang.1;
+    let country = read_marked_part(bytes, b'_', &mut end)?;
+    let encoding = read_marked_part(bytes, b'.', &mut end)?;
+    let modifier = read_marked_part(bytes, b'@', &mut end)?;
+    Ok(Locale {
+        lang,
+        country,
+        encoding,
+        modifier,
+        end,
+    })
+}
+
+/// "Each part is one or more of A-Z a-z 0-9 `-`."
+fn read_part(bytes: &[u8], start: usize) -> Result<Part, usize> {
+    let end = skip(bytes, start, is_key_byte);
+    if end == start {
+        return Err(start);
+    }
+    Ok((start, end))
+}
+
+/// A part after its mark, or none if the mark is not there; `at` moves behind the part.
+fn read_marked_part(bytes: &[u8], mark: u8, at: &mut usize) -> Result<Option<Part>, usize> {
+    if bytes.get(*at) != Some(&mark) {
+        return Ok(None);
+    }
+    let part = read_part(bytes, *at + 1)?;
+    *at = part.1;
+    Ok(Some(part))
+}
+
+/// 7: a locale argument is empty (house) or a whole LOCALE.
+pub fn is_locale(locale: &[u8]) -> bool {
+    locale.is_empty() || read_locale(locale, 0).is_ok_and(|read| read.end == locale.len())
+}
+
+/// The postfixes that a locale tries before the plain key, in order; none for a locale that means the plain key.
+pub fn candidates(locale: &[u8]) -> Vec<Vec<u8>> {
+    let Ok(read) = read_locale(locale, 0) else {
+        return Vec::new();
+    };
+    let lang = &locale[read.lang.0..read.lang.1];
+    let country = read.country.map(|part| &locale[part.0..part.1]);
+    let modifier = read.modifier.map(|part| &locale[part.0..part.1]);
+    if country.is_none() && modifier.is_none() && (lang == b"C" || lang == b"POSIX") {
+        return Vec::new();
+    }
+    let mut tried = Vec::new();
+    if let (Some(country), Some(modifier)) = (country, modifier) {
+        tried.push([lang, b"_", country, b"@", modifier].concat());
+    }
+    if let Some(country) = country {
+        tried.push([lang, b"_", country].concat());
+    }
+    if let Some(modifier) = modifier {
+        tried.push([lang, b"@", modifier].concat());
+    }
+    tried.push(lang.to_vec());
+    tried
+}
+
+/// Choice of language for a plain key: 1 to 6, then 7, then 8 "exactly if the plain key is missing, or its whole group".
+pub fn choose(
+    file: &[u8],
+    group: &[u8],
+    key: &[u8],
+    locale: &[u8],
+) -> Result<(usize, usize), Refusal> {
+    check(file)?;
+    let plain_key = split_key(key).is_some_and(|(_, postfix)| postfix.is_none());
+    if !is_group(group) || !plain_key || !is_locale(locale) {
+        return Err(Refusal::new(7));
+    }
+    let groups = read_groups(file);
+    let group = find_group(&groups, group).ok_or(Refusal::new(8))?;
+    let plain = find_entry(group, key, None).ok_or(Refusal::new(8))?;
+    for postfix in candidates(locale) {
+        if let Some(entry) = find_entry(group, key, Some(&postfix)) {
+            return Ok(entry.value);
+        }
+    }
+    Ok(plain.value)
+}
