@@ -68,22 +68,16 @@ impl Book {
         self.replay().1
     }
 
-    /// "The first of 7, 10, 8, 6, 17, 11, 13 that applies refuses; else the request becomes the last standing, and none waits."
+    /// "The first of 7, 10, 8, 6, 17, 11, 13 that applies refuses"; else the request is the last standing.
     fn ask(&mut self, request: Request) -> Result<(), Refusal> {
         let (file, standing) = self.replay();
-        edit_within(
-            &file,
-            &request,
-            self.file_room,
-            self.journal_room,
-            standing,
-        )?;
+        edit_within(&file, &request, self.file_room, self.journal_room, standing)?;
         self.standing.push(request);
         self.waiting.clear();
         Ok(())
     }
 
-    /// The file and the standing number, from the start; a request that stands was accepted after those before it.
+    /// The file and the standing number from the start; every standing request was accepted once.
     fn replay(&self) -> (Vec<u8>, u64) {
         let mut file = self.start.clone();
         let mut standing = 0;

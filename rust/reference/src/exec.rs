@@ -29,8 +29,8 @@ struct Argument {
 /// A fault of Exec: its place, then 15 or 16, so that the least is the one to tell.
 type Fault = (usize, u32);
 
-/// What goes in for the codes of one run.
-struct Filling<'a> {
+/// The values of the field codes in one run.
+struct Values<'a> {
     items: Vec<&'a [u8]>,
     item: Option<&'a [u8]>,
     name: Vec<u8>,
@@ -67,14 +67,14 @@ pub fn expand(
     let item = usize::try_from(run)
         .ok()
         .and_then(|run| items.get(run).copied());
-    let filling = Filling {
+    let values = Values {
         items,
         item,
         name,
         icon,
         location,
     };
-    write_records(3, &fill(&arguments, &filling), out)
+    write_records(3, &expand_arguments(&arguments, &values), out)
 }
 
 /// The number of runs: n for f and u with n items, else one; refused as the expansion is up to 15 and 16.
@@ -294,47 +294,47 @@ fn count_runs(arguments: &[Argument], items: &[&[u8]]) -> u64 {
 }
 
 /// The arguments of one run.
-fn fill(arguments: &[Argument], filling: &Filling) -> Vec<Vec<u8>> {
-    let mut filled = Vec::new();
+fn expand_arguments(arguments: &[Argument], values: &Values) -> Vec<Vec<u8>> {
+    let mut expanded = Vec::new();
     for argument in arguments {
         match argument.pieces.first().map(|piece| piece.kind) {
             // "F, U: each item its own argument."
             Some(Kind::Code(b'F' | b'U')) => {
-                filled.extend(filling.items.iter().map(|item| item.to_vec()));
+                expanded.extend(values.items.iter().map(|item| item.to_vec()));
             }
             // "i: `--icon` and the Icon, nothing if missing or empty."
             Some(Kind::Code(b'i')) => {
-                if !filling.icon.is_empty() {
-                    filled.push(b"--icon".to_vec());
-                    filled.push(filling.icon.clone());
+                if !values.icon.is_empty() {
+                    expanded.push(b"--icon".to_vec());
+                    expanded.push(values.icon.clone());
                 }
             }
-            _ if is_dropped(argument, filling) => {}
-            _ => filled.push(fill_argument(argument, filling)),
+            _ if is_dropped(argument, values) => {}
+            _ => expanded.push(expand_argument(argument, values)),
         }
     }
-    filled
+    expanded
 }
 
 /// "An unquoted argument made only of vanished codes, or of these and f or u with no item, is dropped."
-fn is_dropped(argument: &Argument, filling: &Filling) -> bool {
+fn is_dropped(argument: &Argument, values: &Values) -> bool {
     let goes = |piece: &Piece| match piece.kind {
         Kind::Byte(_) => false,
-        Kind::Code(b'f' | b'u') => filling.item.is_none(),
+        Kind::Code(b'f' | b'u') => values.item.is_none(),
         Kind::Code(letter) => is_vanishing(letter),
     };
     !argument.quoted && argument.pieces.iter().all(goes)
 }
 
 /// One argument with its codes put in; "put-in text is not searched for codes".
-fn fill_argument(argument: &Argument, filling: &Filling) -> Vec<u8> {
+fn expand_argument(argument: &Argument, values: &Values) -> Vec<u8> {
     let mut bytes = Vec::new();
     for piece in &argument.pieces {
         match piece.kind {
             Kind::Byte(byte) => bytes.push(byte),
-            Kind::Code(b'f' | b'u') => bytes.extend(filling.item.unwrap_or_default()),
-            Kind::Code(b'c') => bytes.extend(&filling.name),
-            Kind::Code(b'k') => bytes.extend(filling.location),
+            Kind::Code(b'f' | b'u') => bytes.extend(values.item.unwrap_or_default()),
+            Kind::Code(b'c') => bytes.extend(&values.name),
+            Kind::Code(b'k') => bytes.extend(values.location),
             Kind::Code(_) => {}
         }
     }

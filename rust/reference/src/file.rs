@@ -13,7 +13,7 @@ pub struct Group<'a> {
     pub entries: Vec<Entry<'a>>,
 }
 
-/// An entry: its line's number and two ends without LF, its key and postfix, and its value's two ends in the file.
+/// An entry: its line's number and two ends without LF, its key and postfix, its value's two ends.
 pub struct Entry<'a> {
     pub number: usize,
     pub line: Part,
@@ -22,7 +22,7 @@ pub struct Entry<'a> {
     pub value: Part,
 }
 
-/// The groups of a file; in a file that is not well formed, bad lines and entries before any header are left out.
+/// The groups of a file; bad lines and entries before any header are left out.
 pub fn read_groups(file: &[u8]) -> Vec<Group<'_>> {
     let mut groups: Vec<Group> = Vec::new();
     for (index, (start, end)) in split_lines(file).into_iter().enumerate() {

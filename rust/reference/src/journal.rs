@@ -87,7 +87,7 @@ fn sound(s: &State) -> Result<(&[u8], Vec<Record<'_>>), Refusal> {
     Ok((file, records))
 }
 
-/// Undo and redo "ask in turn": the bytes stand at the place, else 14; room, else 11; the result well formed, else 14.
+/// Undo and redo "ask in turn": the bytes at the place (14), room (11), the result well formed (14).
 fn exchange(
     file: &[u8],
     place: u64,

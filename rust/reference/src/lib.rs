@@ -3,15 +3,15 @@
 
 #![forbid(unsafe_code)]
 
-pub mod book;
-pub mod edit;
-pub mod exec;
-pub mod file;
-pub mod journal;
+mod book;
+mod edit;
+mod exec;
+mod file;
+mod journal;
 pub mod lines;
-pub mod locale;
-pub mod records;
-pub mod refusal;
+mod locale;
+mod records;
+mod refusal;
 pub mod text;
 
 pub use book::Book;

@@ -76,7 +76,7 @@ fn read_header(line: &[u8]) -> Line {
     Line::Header { name: (1, end) }
 }
 
-/// "entry: a key …; perhaps, a postfix; any spaces; `=`; all spaces that follow; the value"; Err is the bad byte.
+/// "entry: a key …; a postfix; any spaces; `=`; all spaces that follow; the value"; Err is the bad byte.
 fn read_entry(line: &[u8]) -> Result<Line, usize> {
     let (key, postfix, end) = read_key(line)?;
     let equals = skip(line, end, |byte| byte == b' ');

@@ -4,11 +4,10 @@ use crate::file::{check, find_entry, find_group, read_groups};
 use crate::lines::{is_group, is_key_byte, skip, split_key, Part};
 use crate::refusal::Refusal;
 
-/// "LOCALE is lang, then perhaps `_`COUNTRY, `.`ENCODING, `@`MODIFIER in that order"; parts count in the bytes read.
+/// "LOCALE is lang, then perhaps `_`COUNTRY, `.`ENCODING, `@`MODIFIER"; the encoding is read, not kept.
 pub struct Locale {
     pub lang: Part,
     pub country: Option<Part>,
-    pub encoding: Option<Part>,
     pub modifier: Option<Part>,
     pub end: usize,
 }
@@ -18,12 +17,11 @@ pub fn read_locale(bytes: &[u8], start: usize) -> Result<Locale, usize> {
     let lang = read_part(bytes, start)?;
     let mut end = lang.1;
     let country = read_marked_part(bytes, b'_', &mut end)?;
-    let encoding = read_marked_part(bytes, b'.', &mut end)?;
+    read_marked_part(bytes, b'.', &mut end)?;
     let modifier = read_marked_part(bytes, b'@', &mut end)?;
     Ok(Locale {
         lang,
         country,
-        encoding,
         modifier,
         end,
     })
@@ -53,7 +51,7 @@ pub fn is_locale(locale: &[u8]) -> bool {
     locale.is_empty() || read_locale(locale, 0).is_ok_and(|read| read.end == locale.len())
 }
 
-/// The postfixes that a locale tries before the plain key, in order; none for a locale that means the plain key.
+/// The postfixes that a locale tries before the plain key, in order; none for the empty one, C and POSIX.
 pub fn candidates(locale: &[u8]) -> Vec<Vec<u8>> {
     let Ok(read) = read_locale(locale, 0) else {
         return Vec::new();
@@ -78,7 +76,7 @@ pub fn candidates(locale: &[u8]) -> Vec<Vec<u8>> {
     tried
 }
 
-/// Choice of language for a plain key: 1 to 6, then 7, then 8 "exactly if the plain key is missing, or its whole group".
+/// Choice: 1 to 6, then 7, then 8 "exactly if the plain key is missing, or its whole group".
 pub fn choose(
     file: &[u8],
     group: &[u8],

@@ -1,4 +1,4 @@
-//! Paper 01, records: those of kinds 2 and 3 ("Building a command") and those of the journal ("Edits and the journal").
+//! Paper 01, "Building a command" (records of kinds 2 and 3) and "Edits and the journal" (of kind 1).
 
 use crate::refusal::{Refusal, RECORDS_BOUND};
 
@@ -29,7 +29,7 @@ fn read_4(bytes: &[u8], at: usize) -> Option<u32> {
     Some(u32::from_le_bytes(*part))
 }
 
-/// "Records: length of the whole (4), kind (2), then the bytes", filling the list exactly; none if it is damaged.
+/// "Length of the whole (4), kind 2 (2), then the bytes", filling the list; none if it is damaged.
 pub fn read_records(list: &[u8], kind: u16) -> Option<Vec<&[u8]>> {
     if list.len() as u64 > RECORDS_BOUND {
         return None;
@@ -47,7 +47,7 @@ pub fn read_records(list: &[u8], kind: u16) -> Option<Vec<&[u8]>> {
     Some(items)
 }
 
-/// Records of one kind, one after another from the start of the output; 11 before the first byte if they do not fit.
+/// Records of one kind, "one after another from the start of the lent output"; 11 if they do not fit.
 pub fn write_records(kind: u16, items: &[Vec<u8>], out: &mut [u8]) -> Result<usize, Refusal> {
     let mut total: u128 = 0;
     for item in items {
@@ -104,7 +104,7 @@ pub fn read_journal(used: &[u8]) -> Option<Vec<Record<'_>>> {
     Some(records)
 }
 
-/// "A record: length of the whole record (4 bytes), kind 1 (2 bytes), place in the file, old length, new length …".
+/// "A record: length of the whole record, kind 1, place in the file, old length, new length …".
 pub fn write_journal_record(place: u32, old: &[u8], new: &[u8]) -> Vec<u8> {
     let length = JOURNAL_HEAD as usize + old.len() + new.len();
     let mut record = Vec::new();

@@ -22,7 +22,7 @@ fn bytes_after(first: u8) -> Option<&'static [(u8, u8)]> {
     }
 }
 
-/// Where bytes stop being UTF-8: the first byte that no ending could repair, or the length if they are unfinished.
+/// Where bytes stop being UTF-8: the first byte that no ending repairs, or the length if unfinished.
 pub fn utf8_fault(bytes: &[u8]) -> Option<usize> {
     let mut at = 0;
     while at < bytes.len() {
@@ -103,7 +103,7 @@ pub fn escape(text: &[u8]) -> Result<Vec<u8>, Refusal> {
     Ok(raw)
 }
 
-/// The elements of a list, read: pairs of a backslash and a byte, `;` outside them ends an element; 9 by lowest place.
+/// List: "a backslash takes the next byte with it; a `;` outside such a pair ends an element"; else 9.
 pub fn split_list(raw: &[u8]) -> Result<Vec<Vec<u8>>, Refusal> {
     let mut elements = Vec::new();
     let mut element = Vec::new();

@@ -1,0 +1,53 @@
+-- A scan of UTF-8 in progress: what is found from a place on, counted from the start. Assumes nothing.
+use mathlib.Core.Path.{_≡_, refl, ap, _∙_}
+use Prim.Native.Nat.{ℕ, zero, suc, _+_, _-_, _≤_, _<_}
+use native.Mathlib.Omega.{arith}
+use mathlib.Core.Bool.{Bool}
+use mathlib.Core.Option.{Option, none, some, Option·map}
+use mathlib.Core.List.{List, [], _∷_}
+use lib.ListN.{length, drop, getD}
+use Rattle.base.specs.Choice.{maybe}
+use Rattle.base.proofs.Scan.{here, done}
+use Rattle.text.specs.Utf8.{tails, step, textFault}
+use Rattle.text.specs.declared.Due.{Due}
+use Rattle.text.specs.declared.Due.the-variants.{Start, Tail}
+
+-- a place counted from n on
+abbrev pub moved : ℕ → Option ℕ → Option ℕ
+moved n o = Option·map (λ m. n + m) o
+
+moved-suc : (n : ℕ) (o : Option ℕ) → moved n (Option·map suc o) ≡ moved (n + 1) o
+moved-suc n none = refl
+moved-suc n (some m) = ap some (omega arith)
+
+-- one byte more, whatever is due
+fault-cons : (plain : ℕ → Bool) (due : Due) (b : ℕ) (bs : List ℕ)
+    → textFault plain due (b ∷ bs) ≡ maybe (step plain due b) (some 0) (λ next. Option·map suc (textFault plain next bs))
+unfolding textFault
+fault-cons plain Start b bs = refl
+fault-cons plain (Tail more low high) b bs = refl
+
+module _ (plain : ℕ → Bool) (s : List ℕ) (i : ℕ) where
+  pub fault-goes : (due : Due) {next : Due} → i < length s → step plain due (getD s i 0) ≡ some next
+      → moved i (textFault plain due (drop i s)) ≡ moved (i + 1) (textFault plain next (drop (i + 1) s))
+  fault-goes due {next} h e = rw (here s i h, fault-cons plain due (getD s i 0) (drop (i + 1) s), e) (moved-suc i (textFault plain next (drop (i + 1) s)))
+
+  pub fault-stops : (due : Due) → i < length s → step plain due (getD s i 0) ≡ none → moved i (textFault plain due (drop i s)) ≡ some i
+  fault-stops due h e = rw (here s i h, fault-cons plain due (getD s i 0) (drop (i + 1) s), e) (ap some (omega arith))
+
+  pub fault-none : length s ≤ i → moved i (textFault plain Start (drop i s)) ≡ none
+  unfolding textFault
+  fault-none h = rw (done s i h)
+
+  pub fault-unfinished : (more low high : ℕ) → length s ≤ i → moved i (textFault plain (Tail more low high) (drop i s)) ≡ some i
+  unfolding textFault
+  fault-unfinished more low high h = rw (done s i h) (ap some (omega arith))
+
+pub moved-start : (o : Option ℕ) → moved 0 o ≡ o
+moved-start none = refl
+moved-start (some m) = ap some (omega arith)
+
+-- one tail byte less is due
+pub tails-more : (n : ℕ) → (n ≡ 0 → ⊥) → Tail (n - 1) 0x80 0xbf ≡ tails n
+tails-more zero h = absurd (h refl)
+tails-more (suc n) h = let e : suc n - 1 ≡ n = omega arith in rw e

@@ -1,0 +1,5 @@
+pub mod Class
+pub mod Utf8
+pub mod Escape
+pub mod Output
+pub mod Step

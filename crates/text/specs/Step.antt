@@ -1,0 +1,65 @@
+-- What the inner functions of this crate answer, by the definitions of text. Assumes nothing.
+use Prim.Native.Nat.{ℕ, suc, _+_}
+use Prim.Native.Char.{Char, code}
+use mathlib.Core.Bool.{Bool, true, false}
+use mathlib.Core.Option.{Option, none, some}
+use mathlib.Core.List.{List, [], _∷_}
+use lib.ListN.{length}
+use lib.Dec.{eqb}
+use Rattle.base.specs.Choice.{pick, maybe}
+use Rattle.fault.specs.declared.Fault.the-variants.{BadEscape}
+use Rattle.fault.specs.Answer.{Answer, given, refused}
+use Rattle.text.specs.Escape.{escape, textFrom}
+use Rattle.text.specs.declared.Due.{Due}
+use Rattle.text.specs.declared.Next.{Next}
+use Rattle.text.specs.declared.Next.the-variants as next
+use Rattle.text.specs.declared.Scan.{Scan}
+use Rattle.text.specs.declared.Scan.the-variants as scan
+use Rattle.text.specs.declared.Escapes.{Escapes}
+use Rattle.text.specs.declared.Piece.{Piece}
+use Rattle.text.specs.declared.Piece.the-variants as piece
+use Rattle.text.specs.declared.Measure.{Measure}
+use Rattle.text.specs.declared.Measure.the-variants as measure
+
+-- what is due next, if anything
+abbrev pub dueOf : Next → Option Due
+dueOf (next.Is d) = some d
+dueOf next.Stop = none
+
+-- where a scan found a fault, if anywhere
+abbrev pub faultOf : Scan → Option ℕ
+faultOf scan.Sound = none
+faultOf (scan.Fault n) = some n
+
+-- the byte that an escape stands for, with the two raw bytes it takes
+abbrev pub pairOf : Option ℕ → Piece
+pairOf none = piece.Wrong
+pairOf (some x) = piece.Byte x 2
+
+-- the same of the byte after a backslash
+unfoldable pub pieceAfter : Escapes → List ℕ → Piece
+pieceAfter k [] = piece.Wrong
+pieceAfter k (c ∷ bs) = pairOf (escape k c)
+
+-- the first byte of raw bytes' text, and how many raw bytes it takes
+unfoldable pub pieceOf : Escapes → List ℕ → Piece
+pieceOf k [] = piece.Wrong
+pieceOf k (b ∷ bs) = pick (eqb b (code "\\")) (pieceAfter k bs) (piece.Byte b 1)
+
+-- how long a text is, or where the escape is wrong
+abbrev pub measured : Measure → Answer ℕ
+measured (measure.Length n) = given n
+measured (measure.Wrong at) = refused (BadEscape at)
+
+-- the text, where it is given
+abbrev pub textOf : Answer (List ℕ) → List ℕ
+textOf (given t) = t
+textOf (refused f) = []
+
+-- how many raw bytes the first element has; the flag: a backslash took the first byte
+unfoldable pub elementLength : List ℕ → Bool → ℕ
+elementLength [] taken = 0
+elementLength (b ∷ bs) true = suc (elementLength bs false)
+elementLength (b ∷ bs) false =
+    let more : ℕ = suc (elementLength bs (eqb b (code "\\"))) in
+    pick (eqb b (code ";")) 0 more

@@ -1,0 +1,415 @@
+//! Seeded random calls: the journal and the book agree, undo restores, and no input stops a call.
+
+use crate::common::*;
+use reference::lines::{read_line, Line};
+use reference::text::utf8_fault;
+use reference::{
+    check, choose, complete, expand, lookup, read_list, read_text, redo, remove, set, undo,
+    write_text, Book, Refusal, State,
+};
+
+/// A xorshift generator.
+struct Random(u64);
+
+impl Random {
+    /// A generator for a seed from 1.
+    fn seeded(seed: u64) -> Random {
+        Random(seed.wrapping_mul(0x9E37_79B9_7F4A_7C15))
+    }
+
+    /// The next number.
+    fn next(&mut self) -> u64 {
+        self.0 ^= self.0 << 13;
+        self.0 ^= self.0 >> 7;
+        self.0 ^= self.0 << 17;
+        self.0
+    }
+
+    /// A number below a bound.
+    fn below(&mut self, bound: usize) -> usize {
+        (self.next() % bound as u64) as usize
+    }
+
+    /// One of some choices.
+    fn pick<'a, A: ?Sized>(&mut self, choices: &[&'a A]) -> &'a A {
+        choices[self.below(choices.len())]
+    }
+
+    /// Some bytes of an alphabet, fewer than a bound.
+    fn bytes(&mut self, alphabet: &[u8], bound: usize) -> Vec<u8> {
+        let length = self.below(bound);
+        (0..length)
+            .map(|_| alphabet[self.below(alphabet.len())])
+            .collect()
+    }
+}
+
+const STARTS: [&[u8]; 5] = [
+    T,
+    b"[Desktop Entry]",
+    b"# c\n\n[Desktop Entry]\nName = a\nName[de]=  b\n[A]\n# d",
+    b"[Desktop Entry]\n[A]\nX=1\nX[de]=2\n\n[B]\nX=3",
+    b"[Desktop Entry]\nName[de]=\nName=\n#\n[A]\n",
+];
+
+const GROUPS: [&[u8]; 6] = [b"Desktop Entry", b"Desktop Entry", b"A", b"A", b"B", b"a["];
+
+const KEYS: [&[u8]; 8] = [
+    b"Name",
+    b"Name[de]",
+    b"Name[fr]",
+    b"X",
+    b"X[de]",
+    b"Icon",
+    b"Icon[x_Y.z@m]",
+    b"Icon[",
+];
+
+const TEXTS: [&[u8]; 8] = [
+    b"",
+    b" ",
+    b"a",
+    b"Lesen",
+    b" a\\b\n\t\r ",
+    b"\x01",
+    b"\xC3\xA9",
+    b"0123456789012345678901234567890",
+];
+
+/// One call: a set, remove, undo or redo.
+enum Call {
+    Set(&'static [u8], &'static [u8], &'static [u8]),
+    Remove(&'static [u8], &'static [u8]),
+    Undo,
+    Redo,
+}
+
+impl Call {
+    /// A random call.
+    fn random(random: &mut Random) -> Call {
+        match random.below(10) {
+            0..=3 => Call::Set(
+                random.pick(&GROUPS),
+                random.pick(&KEYS),
+                random.pick(&TEXTS),
+            ),
+            4..=5 => Call::Remove(random.pick(&GROUPS), random.pick(&KEYS)),
+            6..=7 => Call::Undo,
+            _ => Call::Redo,
+        }
+    }
+
+    /// The call over lent buffers.
+    fn over_state(&self, s: &mut State) -> Result<(), Refusal> {
+        match self {
+            Call::Set(group, key, text) => set(s, group, key, text),
+            Call::Remove(group, key) => remove(s, group, key),
+            Call::Undo => undo(s),
+            Call::Redo => redo(s),
+        }
+    }
+
+    /// The call fed to the book.
+    fn over_book(&self, book: &mut Book) -> Result<(), Refusal> {
+        match self {
+            Call::Set(group, key, text) => book.set(group, key, text),
+            Call::Remove(group, key) => book.remove(group, key),
+            Call::Undo => book.undo(),
+            Call::Redo => book.redo(),
+        }
+    }
+}
+
+/// What each buffer holds after an accepted call: zeros where the file shrank, the rest unchanged.
+fn ask_buffers(before: &State, after: &State, call: &Call) {
+    let (old, new) = (before.file_len as usize, after.file_len as usize);
+    assert!(new >= old || after.file[new..old].iter().all(|byte| *byte == 0));
+    assert_eq!(before.file[old.max(new)..], after.file[old.max(new)..]);
+    let start = before.standing as usize;
+    let end = after.standing as usize;
+    match call {
+        Call::Set(..) | Call::Remove(..) => {
+            assert_eq!(after.used, after.standing);
+            assert_eq!(before.journal[..start], after.journal[..start]);
+            assert_eq!(before.journal[end..], after.journal[end..]);
+        }
+        Call::Undo | Call::Redo => {
+            assert_eq!(before.journal, after.journal);
+            assert_eq!(before.used, after.used);
+        }
+    }
+}
+
+#[test]
+fn journal_and_book_agree() {
+    let mut seen = [0; 18];
+    for seed in 1..=120 {
+        let mut random = Random::seeded(seed);
+        let start = random.pick(&STARTS);
+        let file_room = start.len() + random.below(120);
+        let journal_room = random.below(600);
+        let mut s = state(start, file_room, journal_room);
+        let mut book = Book::new(start, file_room, journal_room);
+        for _ in 0..80 {
+            let call = Call::random(&mut random);
+            let before = s.clone();
+            let answer = call.over_state(&mut s);
+            assert_eq!(answer, call.over_book(&mut book));
+            assert_eq!(file_of(&s), book.file());
+            assert_eq!(s.standing, book.standing());
+            match answer {
+                Ok(()) => ask_buffers(&before, &s, &call),
+                Err(refusal) => {
+                    assert_eq!(s, before);
+                    assert_eq!((refusal.place, refusal.byte), (0, 0));
+                    seen[refusal.number as usize] += 1;
+                }
+            }
+            assert_eq!(check(file_of(&s)), Ok(()));
+        }
+    }
+    for number in [6, 7, 8, 10, 11, 12, 13, 17] {
+        assert!(seen[number] > 0, "refusal {number} never came");
+    }
+}
+
+#[test]
+fn undo_after_an_edit_restores() {
+    let mut edits = 0;
+    for seed in 1..=80 {
+        let mut random = Random::seeded(seed);
+        let mut s = state(random.pick(&STARTS), 2_000, 20_000);
+        for _ in 0..40 {
+            let call = Call::random(&mut random);
+            let before = s.clone();
+            if call.over_state(&mut s).is_err() {
+                continue;
+            }
+            let mut back = s.clone();
+            match call {
+                Call::Set(group, key, text) => {
+                    let (start, end) = lookup(file_of(&s), group, key).unwrap();
+                    assert_eq!(read(&s.file[start..end]), Ok(text.to_vec()));
+                    assert_eq!(undo(&mut back), Ok(()));
+                }
+                Call::Remove(group, key) => {
+                    assert_eq!(lookup(file_of(&s), group, key), refused(8, 0));
+                    assert_eq!(undo(&mut back), Ok(()));
+                }
+                Call::Undo => assert_eq!(redo(&mut back), Ok(())),
+                Call::Redo => assert_eq!(undo(&mut back), Ok(())),
+            }
+            edits += 1;
+            assert_eq!(file_of(&back), file_of(&before));
+            assert_eq!(back.standing, before.standing);
+            let again = match call {
+                Call::Undo => undo(&mut back),
+                _ => redo(&mut back),
+            };
+            assert_eq!(again, Ok(()));
+            assert_eq!(file_of(&back), file_of(&s));
+        }
+        // All the way back, one record after another.
+        let end = s.clone();
+        let mut steps = 0;
+        while undo(&mut s).is_ok() {
+            steps += 1;
+        }
+        assert_eq!(s.standing, 0);
+        for _ in 0..steps {
+            assert_eq!(redo(&mut s), Ok(()));
+        }
+        assert_eq!((file_of(&s), s.standing), (file_of(&end), end.standing));
+    }
+    assert!(edits > 500);
+}
+
+/// One of a few numbers that lie at the edges, or a small one.
+fn odd_number(random: &mut Random, near: u64) -> u64 {
+    match random.below(6) {
+        0 => u64::MAX,
+        1 => u64::from(u32::MAX),
+        2 => 65_536 + random.next() % 3,
+        3 => near.wrapping_add(random.next() % 3).wrapping_sub(1),
+        _ => random.next() % 80,
+    }
+}
+
+#[test]
+fn hostile_states_are_answered() {
+    let mut accepted = 0;
+    let mut seen = [0; 18];
+    for seed in 1..=3_000 {
+        let mut random = Random::seeded(seed);
+        let mut s = state(random.pick(&STARTS), 200, 200);
+        for _ in 0..random.below(6) {
+            let _ = Call::random(&mut random).over_state(&mut s);
+        }
+        for _ in 0..1 + random.below(2) {
+            match random.below(9) {
+                0 => s.file_len = odd_number(&mut random, s.file_len),
+                1 => s.used = odd_number(&mut random, s.used),
+                2 => s.standing = odd_number(&mut random, s.standing),
+                3 => {
+                    let at = random.below(s.file.len());
+                    s.file[at] = random.next() as u8;
+                }
+                4..=6 => {
+                    let at = random.below(1 + s.used.min(199) as usize);
+                    s.journal[at] = *random.pick(&[&0, &1, &0xFF, &b'\n', &20]);
+                }
+                7 => s.file.truncate(s.file_len.min(200) as usize),
+                _ => s.file.resize(100, 0),
+            }
+        }
+        for call in [
+            Call::Set(GROUPS[0], KEYS[0], TEXTS[3]),
+            Call::Remove(GROUPS[0], KEYS[1]),
+            Call::Undo,
+            Call::Redo,
+        ] {
+            let mut after = s.clone();
+            match call.over_state(&mut after) {
+                Ok(()) => {
+                    accepted += 1;
+                    ask_buffers(&s, &after, &call);
+                    assert_eq!(check(file_of(&after)), Ok(()));
+                }
+                Err(refusal) => {
+                    seen[refusal.number as usize] += 1;
+                    assert_eq!(after, s);
+                }
+            }
+        }
+    }
+    assert!(accepted > 500);
+    for number in [2, 11, 12, 14] {
+        assert!(seen[number] > 0, "refusal {number} never came");
+    }
+}
+
+#[test]
+fn any_bytes_are_answered() {
+    let alphabet = b"[]#=\n\n aZ-_.@\t;\\\"%fFcis\x80\xC3\xA9\xE0\xFF\0";
+    let mut random = Random::seeded(1);
+    for _ in 0..20_000 {
+        let noise = random.bytes(alphabet, 12);
+        let file = with_header(&[b"Name=n\nExec=v ", noise.as_slice(), b"\n"].concat());
+        let answer = check(&file);
+        for whole in [&noise, &file] {
+            if let Err(refusal) = check(whole) {
+                assert_eq!(complete(whole), Err(refusal));
+            }
+            let _ = lookup(whole, &noise, &noise);
+            let _ = lookup(&file, b"Desktop Entry", &noise);
+            let _ = choose(whole, b"Desktop Entry", b"Name", &noise);
+        }
+        let _ = output(|out| read_text(&noise, out), 1_000);
+        let _ = output(|out| read_list(&noise, out), 1_000);
+        if let Ok(raw) = output(|out| write_text(&noise, out), 1_000) {
+            assert_eq!(read(&raw), Ok(noise.clone()));
+            let line = [b"A=".as_slice(), &raw].concat();
+            assert_eq!(check(&with_header(&line)), Ok(()));
+        }
+        let list = records(2, &["x", "y"]);
+        let run = random.next() % 3;
+        let expanded = output(|out| expand(&file, b"de", b"l", &list, run, out), 1_000);
+        if let Err(refusal) = answer {
+            assert_eq!(expanded, Err(refusal));
+        } else if let Ok(out) = expanded {
+            assert_eq!(split(3, &out)[0], b"v");
+        }
+        let _ = output(|out| expand(&file, &noise, &noise, &noise, run, out), 1_000);
+        let mut book = Book::new(&noise, random.below(40), random.below(40));
+        let _ = book.set(b"A", b"a", b"x");
+        let _ = book.remove(b"A", b"a");
+        let _ = book.undo();
+        let _ = book.redo();
+        let _ = (book.file(), book.standing());
+    }
+}
+
+#[test]
+fn utf8_agrees_with_the_standard_library() {
+    for first in 0..=255u8 {
+        assert_eq!(
+            utf8_fault(&[first]).is_none(),
+            std::str::from_utf8(&[first]).is_ok()
+        );
+        for second in 0..=255u8 {
+            let two = [first, second];
+            assert_eq!(
+                utf8_fault(&two).is_none(),
+                std::str::from_utf8(&two).is_ok()
+            );
+            for third in [0x7F, 0x80, 0xBF, 0xC0] {
+                let three = [first, second, third];
+                assert_eq!(
+                    utf8_fault(&three).is_none(),
+                    std::str::from_utf8(&three).is_ok()
+                );
+                let four = [first, second, third, 0x80];
+                assert_eq!(
+                    utf8_fault(&four).is_none(),
+                    std::str::from_utf8(&four).is_ok()
+                );
+            }
+        }
+    }
+}
+
+/// Whether some ending of few bytes makes a line good.
+fn could_be_good(line: &mut Vec<u8>, endings: &[&[u8]]) -> bool {
+    if !matches!(read_line(line), Line::Bad { .. }) {
+        return true;
+    }
+    endings.iter().any(|ending| {
+        let length = line.len();
+        line.extend(*ending);
+        let good = !matches!(read_line(line), Line::Bad { .. });
+        line.truncate(length);
+        good
+    })
+}
+
+#[test]
+fn byte_of_a_bad_line_is_the_first_hopeless_one() {
+    // Endings that finish each thing that can be unfinished.
+    let endings: [&[u8]; 14] = [
+        b"a]=",
+        b"]=",
+        b"=",
+        b"a=",
+        b"]",
+        b"a]",
+        b"\x80",
+        b"\x80\x80",
+        b"\x80\x80\x80",
+        b"\xA0\x80",
+        b"\xA0\x80\x80",
+        b"\x90\x80\x80",
+        b"\x9F\x80",
+        b"\xBF",
+    ];
+    let alphabet = b"[]ab-_.@=  \t#\xC3\x80\xA0\xE0\xED\xF0\xF4\x90\xF5\x7F\x01";
+    let starts: [&[u8]; 6] = [b"", b"k", b"k[", b"k[de", b"k=", b"["];
+    let mut random = Random::seeded(1);
+    let mut bad = 0;
+    for _ in 0..60_000 {
+        let mut line = random.pick(&starts).to_vec();
+        line.extend(random.bytes(alphabet, 7));
+        let Line::Bad { byte } = read_line(&line) else {
+            continue;
+        };
+        bad += 1;
+        for length in 0..=line.len() {
+            let mut beginning = line[..length].to_vec();
+            assert_eq!(
+                could_be_good(&mut beginning, &endings),
+                length <= byte,
+                "{line:?}"
+            );
+        }
+    }
+    assert!(bad > 10_000);
+}
