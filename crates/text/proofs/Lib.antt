@@ -1,1 +1,4 @@
 pub mod Utf8Laws
+pub mod OutputLaws
+pub mod Reading
+pub mod Writing

@@ -63,3 +63,16 @@ elementLength (b ∷ bs) true = suc (elementLength bs false)
 elementLength (b ∷ bs) false =
     let more : ℕ = suc (elementLength bs (eqb b (code "\\"))) in
     pick (eqb b (code ";")) 0 more
+
+-- the letter that stands after a backslash for a byte of text, or 0 where the byte stands for itself
+unfoldable pub letter : ℕ → ℕ
+letter b =
+    pick (eqb b (code "\\")) (code "\\")
+    (pick (eqb b (code "\n")) (code "n")
+    (pick (eqb b (code "\t")) (code "t")
+    (pick (eqb b (code "\r")) (code "r") 0)))
+
+-- the same, where the first byte may be a space
+abbrev pub letterOf : Bool → ℕ → ℕ
+letterOf true b = pick (eqb b (code " ")) (code "s") (letter b)
+letterOf false b = letter b

@@ -1,8 +1,12 @@
 // Text in raw values: which bytes may stand where, UTF-8, escapes and value lists.
 pub mod classes; // classes.rt: classes of bytes
 pub mod utf8; // utf8.rt: UTF-8
+pub mod escape; // escape.rt: text from raw bytes and back
 
 use fault::Fault;
+ghost use mathlib.Core.Path.{_≡_};
+ghost use Rattle.text.specs.Escape.{readText, writeText};
+ghost use Rattle.text.specs.Output.{answered, told, held};
 
 // A class of bytes. A locale's part is made of the bytes of a key.
 pub enum Class {
@@ -55,4 +59,37 @@ pub enum Measure {
 pub enum Written {
     Bytes(usize),
     Refused(Fault),
+}
+
+// The text of a raw value: 9, then 11.
+pub fn read_text(raw: &[u8], out: &mut [u8]) -> Written
+    ensures answer { λ r. ⌜ answered r ≡ told (readText (now (raw .entry))) (now (out .entry)) ⌝ }
+    ensures output { λ _. ⌜ now (out .exit) ≡ held (readText (now (raw .entry))) (now (out .entry)) ⌝ }
+{
+    match escape::text_length(raw, Escapes::Text) {
+        Measure::Wrong(at) => Written::Refused(Fault::BadEscape { at }),
+        Measure::Length(n) => {
+            if out.len() < n {
+                return Written::Refused(Fault::NoRoom);
+            }
+            Written::Bytes(escape::unescape(raw, Escapes::Text, out))
+        }
+    }
+}
+
+// The raw value of a text: 10, then 11.
+pub fn write_text(text: &[u8], out: &mut [u8]) -> Written
+    ensures answer { λ r. ⌜ answered r ≡ told (writeText (now (text .entry))) (now (out .entry)) ⌝ }
+    ensures output { λ _. ⌜ now (out .exit) ≡ held (writeText (now (text .entry))) (now (out .entry)) ⌝ }
+{
+    match utf8::scan(text, Class::Text) {
+        Scan::Fault(_) => Written::Refused(Fault::UnfitText),
+        Scan::Sound => {
+            let n = escape::raw_length(text);
+            if out.len() < n {
+                return Written::Refused(Fault::NoRoom);
+            }
+            Written::Bytes(escape::write_raw(text, out))
+        }
+    }
 }

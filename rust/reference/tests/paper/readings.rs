@@ -901,7 +901,7 @@ fn r7_8_items_unchanged() {
 
 #[test]
 fn a6_1_byte_in_the_line() {
-    let lines: [(&[u8], u64); 30] = [
+    let lines: [(&[u8], u64); 31] = [
         (b"[]", 1),
         (b"[a]x", 3),
         (b" x", 1),
@@ -929,6 +929,7 @@ fn a6_1_byte_in_the_line() {
         (b"k[_B]=", 2),
         (b"k=a\x01\xFF", 3),
         (b"k=\xC3\x7F", 3),
+        (b"k=a\x7F", 3),
         (b"k= \xF4\x90", 4),
         (b"k=\xED\xA0\x80", 3),
         (b"k=\xF0\x90\x80", 5),
