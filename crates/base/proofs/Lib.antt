@@ -1,4 +1,5 @@
 pub mod Scan
+pub mod Lists
 pub mod Tail
 pub mod Over
 pub mod Fill

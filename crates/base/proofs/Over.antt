@@ -1,11 +1,13 @@
 -- What stands where in a buffer with x written over it. Assumes nothing.
-use mathlib.Core.Path.{_≡_, sym, ap, _∙_}
+use mathlib.Core.Path.{_≡_, _∙_}
 use mathlib.Core.List.{List, _++_, append-assoc}
 use Prim.Native.Nat.{ℕ, _+_, _≤_}
+use native.Mathlib.Nat.{add-assoc}
 use native.Mathlib.Omega.{arith}
 use lib.ListN.{length, take, drop, length-append, length-drop}
-use lib.Seq.{length-take-le, take-at, drop-at}
-use Rattle.base.specs.Over.{over}
+use lib.Seq.{length-take-le, take-at, drop-at, take-length, drop-drop, take-append-le, take-take}
+use Rattle.base.specs.Over.{over, atFront}
+use Rattle.base.proofs.Tail.{lent, back, tail-lent, tail-back}
 
 module _ (s : List ℕ) (at : ℕ) (x : List ℕ) (h : at + length x ≤ length s) where
   front : length (take at s ++ x) ≡ at + length x
@@ -19,3 +21,36 @@ module _ (s : List ℕ) (at : ℕ) (x : List ℕ) (h : at + length x ≤ length 
 
   pub length-over : length (over s at x) ≡ length s
   length-over = simp (length-append, length-drop) (omega (arith, length-take-le at s (omega arith)))
+
+-- ---- through a tail that was lent
+
+-- x copied to the front
+pub copied : (s x : List ℕ) {y : List ℕ} → y ≡ take (length x) x ++ drop (length x) s → y ≡ atFront s x
+copied s x e = e ∙ rw take-length
+
+-- x written at the front of the tail, and the tail back
+pub over-tail : (s : List ℕ) (at : ℕ) (x : List ℕ) {y : List ℕ} → y ≡ atFront (lent at s) x → back at s y ≡ over s at x
+over-tail s at x {y} e = tail-back at s y ∙ rw (e, tail-lent at s, drop-drop)
+
+-- y written right behind x
+pub over-then : (s : List ℕ) (at : ℕ) (x y : List ℕ) {n : ℕ} → n ≡ at + length x → at + length x ≤ length s → over (over s at x) n y ≡ over s at (x ++ y)
+over-then s at x y e h =
+    rw (
+      e,
+      take-over s at x h,
+      ← drop-drop (length y) (at + length x) (over s at x),
+      drop-over s at x h,
+      drop-drop (length y) (at + length x) s,
+      length-append x y,
+      add-assoc at (length x) (length y),
+    )
+    (simp append-assoc)
+
+-- x written right before y
+pub over-before : (s : List ℕ) (at : ℕ) (x y : List ℕ) {n : ℕ} → n ≡ at + length x → n + length y ≤ length s → over (over s n y) at x ≡ over s at (x ++ y)
+over-before s at x y {n} e h =
+    let f : length (take at s) ≡ at = length-take-le at s (omega arith) in
+    let g : length (take n s) ≡ n = length-take-le n s (omega arith) in
+    let m : at + length (x ++ y) ≡ n + length y = rw length-append (omega arith) in
+    rw (take-append-le at (take n s) (y ++ drop (n + length y) s) (omega arith), take-take at n s (omega arith), ← e, drop-at (take n s) (y ++ drop (n + length y) s) n g, m)
+    (simp append-assoc)

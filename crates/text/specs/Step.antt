@@ -1,15 +1,16 @@
 -- What the inner functions of this crate answer, by the definitions of text. Assumes nothing.
-use Prim.Native.Nat.{ℕ, suc, _+_}
+use Prim.Native.Nat.{ℕ, suc, _+_, _-_}
 use Prim.Native.Char.{Char, code}
 use mathlib.Core.Bool.{Bool, true, false}
 use mathlib.Core.Option.{Option, none, some}
 use mathlib.Core.List.{List, [], _∷_}
 use lib.ListN.{length}
-use lib.Dec.{eqb}
+use lib.Dec.{eqb, ltb, leb}
 use Rattle.base.specs.Choice.{pick, maybe}
 use Rattle.fault.specs.declared.Fault.the-variants.{BadEscape}
 use Rattle.fault.specs.Answer.{Answer, given, refused}
-use Rattle.text.specs.Escape.{escape, textFrom}
+use Rattle.record.specs.Record.{headLength}
+use Rattle.text.specs.Escape.{escape}
 use Rattle.text.specs.declared.Due.{Due}
 use Rattle.text.specs.declared.Next.{Next}
 use Rattle.text.specs.declared.Next.the-variants as next
@@ -18,6 +19,10 @@ use Rattle.text.specs.declared.Scan.the-variants as scan
 use Rattle.text.specs.declared.Escapes.{Escapes}
 use Rattle.text.specs.declared.Piece.{Piece}
 use Rattle.text.specs.declared.Piece.the-variants as piece
+use Rattle.text.specs.declared.Left.{Left}
+use Rattle.text.specs.declared.Left.the-variants as left
+use Rattle.text.specs.declared.Spared.{Spared}
+use Rattle.text.specs.declared.Spared.the-variants as spare
 use Rattle.text.specs.declared.Measure.{Measure}
 use Rattle.text.specs.declared.Measure.the-variants as measure
 
@@ -55,6 +60,27 @@ measured (measure.Wrong at) = refused (BadEscape at)
 abbrev pub textOf : Answer (List ℕ) → List ℕ
 textOf (given t) = t
 textOf (refused f) = []
+
+-- the elements, where they are given
+abbrev pub elementsIn : Answer (List (List ℕ)) → List (List ℕ)
+elementsIn (given es) = es
+elementsIn (refused f) = []
+
+-- the room left after a record whose body has n bytes
+unfoldable pub spend : Left → ℕ → Left
+spend (left.Bytes room) n =
+    pick (ltb (headLength + n) 0x100000000) (pick (leb (headLength + n) room) (left.Bytes (room - (headLength + n))) left.Short) left.Short
+spend left.Short n = left.Short
+
+-- the room left after the records of some bodies
+unfoldable pub spendAll : Left → List (List ℕ) → Left
+spendAll room [] = room
+spendAll room (e ∷ es) = spendAll (spend room (length e)) es
+
+-- the room left after a list, or where an escape in it is wrong
+abbrev pub spared : Spared → Answer Left
+spared (spare.Is room) = given room
+spared (spare.Wrong at) = refused (BadEscape at)
 
 -- how many raw bytes the first element has; the flag: a backslash took the first byte
 unfoldable pub elementLength : List ℕ → Bool → ℕ

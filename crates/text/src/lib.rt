@@ -2,10 +2,12 @@
 pub mod classes; // classes.rt: classes of bytes
 pub mod utf8; // utf8.rt: UTF-8
 pub mod escape; // escape.rt: text from raw bytes and back
+mod list; // list.rt: the elements of a value list
 
 use fault::Fault;
 ghost use mathlib.Core.Path.{_≡_};
 ghost use Rattle.text.specs.Escape.{readText, writeText};
+ghost use Rattle.text.specs.Element.{readElements};
 ghost use Rattle.text.specs.Output.{answered, told, held};
 
 // A class of bytes. A locale's part is made of the bytes of a key.
@@ -55,6 +57,18 @@ pub enum Measure {
     Wrong(usize),
 }
 
+// How much room is left in an output.
+pub enum Left {
+    Bytes(usize),
+    Short,
+}
+
+// How much room a list leaves, or where an escape in it is wrong.
+pub enum Spared {
+    Is(Left),
+    Wrong(usize),
+}
+
 // What a call with an output answers: how many bytes it wrote, or its refusal.
 pub enum Written {
     Bytes(usize),
@@ -91,5 +105,19 @@ pub fn write_text(text: &[u8], out: &mut [u8]) -> Written
             }
             Written::Bytes(escape::write_raw(text, out))
         }
+    }
+}
+
+// The elements of a raw value as records of kind 2: 9, then 11.
+pub fn read_list(raw: &[u8], out: &mut [u8]) -> Written
+    ensures answer { λ r. ⌜ answered r ≡ told (readElements (now (raw .entry))) (now (out .entry)) ⌝ }
+    ensures output { λ _. ⌜ now (out .exit) ≡ held (readElements (now (raw .entry))) (now (out .entry)) ⌝ }
+{
+    match list::spare(raw, out.len()) {
+        Spared::Wrong(at) => Written::Refused(Fault::BadEscape { at }),
+        Spared::Is(left) => match left {
+            Left::Short => Written::Refused(Fault::NoRoom),
+            Left::Bytes(_) => Written::Bytes(list::write(raw, out)),
+        },
     }
 }

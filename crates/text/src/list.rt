@@ -1,0 +1,103 @@
+// The elements of a value list, read as text and written as records.
+use crate::Escapes;
+use crate::Left;
+use crate::Measure;
+use crate::Spared;
+use crate::escape;
+ghost use mathlib.Core.Path.{_≡_};
+ghost use mathlib.Core.Bool.{true, false};
+ghost use Prim.Native.Nat.{_+_, _≤_};
+ghost use lib.ListN.{length, drop};
+ghost use Rattle.base.specs.Over.{over, atFront};
+ghost use Rattle.fault.specs.Answer.{accepted, then};
+ghost use Rattle.record.specs.Record.{recordLength, recordBytes, listOf};
+ghost use Rattle.text.specs.Escape.{textFrom};
+ghost use Rattle.text.specs.Element.{elementsOf};
+ghost use Rattle.text.specs.Step as spec;
+
+// Where the raw element that begins at a place ends: at its `;`, or at the end.
+fn element_end(raw: &[u8], from: usize) -> usize
+    ensures { λ r. ⌜ r ≡ from + spec.elementLength (drop from (now (raw .entry))) false ⌝ }
+{
+    let mut i = from;
+    let mut taken = false;
+    while i < raw.len() {
+        if taken {
+            taken = false;
+            i += 1;
+        } else {
+            if raw[i] == b';' {
+                return i;
+            }
+            taken = raw[i] == b'\\';
+            i += 1;
+        }
+    }
+    i
+}
+
+// The room left after a record whose body has n bytes.
+fn spend(left: Left, n: usize) -> Left
+    ensures { λ r. ⌜ r ≡ spec.spend left n ⌝ }
+{
+    match left {
+        Left::Short => Left::Short,
+        Left::Bytes(room) => {
+            if 0xfffffff9 < n {
+                return Left::Short;
+            }
+            if room < 6 + n {
+                return Left::Short;
+            }
+            Left::Bytes(room - (6 + n))
+        }
+    }
+}
+
+// The room that the elements' records leave, or where an escape is wrong.
+pub fn spare(raw: &[u8], room: usize) -> Spared
+    ensures { λ r. ⌜ spec.spared r ≡ then (spec.spendAll (Left.Bytes room)) (elementsOf (now (raw .entry))) ⌝ }
+{
+    let mut left = Left::Bytes(room);
+    let mut i: usize = 0;
+    while i < raw.len() {
+        let e = element_end(raw, i);
+        match escape::text_length(&raw[i..e], Escapes::List) {
+            Measure::Wrong(at) => return Spared::Wrong(i + at),
+            Measure::Length(n) => {
+                left = spend(left, n);
+                i = e + 1;
+            }
+        }
+    }
+    Spared::Is(left)
+}
+
+// One element's record through the part of the output that starts at a place; the answer is where it ends.
+fn put(raw: &[u8], out: &mut [u8], at: usize) -> usize
+    requires { ⌜ (accepted (textFrom Escapes.List (now raw) false 0) ≡ true)
+        × (at + recordLength (spec.textOf (textFrom Escapes.List (now raw) false 0)) ≤ length (now out)) ⌝ }
+    ensures { λ r. ⌜ (r ≡ at + recordLength (spec.textOf (textFrom Escapes.List (now (raw .entry)) false 0)))
+        × (now (out .exit) ≡ over (now (out .entry)) at (recordBytes (record { kind = 2; body = spec.textOf (textFrom Escapes.List (now (raw .entry)) false 0) }))) ⌝ }
+{
+    let from = at + 6;
+    let n = escape::unescape(raw, Escapes::List, &mut out[from..]);
+    record::put_head(&mut out[at..], 6 + n, 2);
+    from + n
+}
+
+// The elements' records, one after another from the start of an output that has room for them.
+pub fn write(raw: &[u8], out: &mut [u8]) -> usize
+    requires { ⌜ (accepted (elementsOf (now raw)) ≡ true) × (length (listOf 2 (spec.elementsIn (elementsOf (now raw)))) ≤ length (now out)) ⌝ }
+    ensures { λ r. ⌜ (r ≡ length (listOf 2 (spec.elementsIn (elementsOf (now (raw .entry))))))
+        × (now (out .exit) ≡ atFront (now (out .entry)) (listOf 2 (spec.elementsIn (elementsOf (now (raw .entry)))))) ⌝ }
+{
+    let mut i: usize = 0;
+    let mut at: usize = 0;
+    while i < raw.len() {
+        let e = element_end(raw, i);
+        at = put(&raw[i..e], out, at);
+        i = e + 1;
+    }
+    at
+}
