@@ -3,3 +3,5 @@ pub mod OutputLaws
 pub mod Reading
 pub mod Writing
 pub mod Elements
+pub mod ReadBack
+pub mod Values

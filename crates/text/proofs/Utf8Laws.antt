@@ -5,9 +5,10 @@ use native.Mathlib.Omega.{arith}
 use mathlib.Core.Bool.{Bool}
 use mathlib.Core.Option.{Option, none, some, Option·map}
 use mathlib.Core.List.{List, [], _∷_}
-use lib.ListN.{length, drop, getD}
+use lib.ListN.{length, take, drop, getD, length-drop}
 use Rattle.base.specs.Choice.{maybe}
 use Rattle.base.proofs.Scan.{here, done}
+use Rattle.base.proofs.Tail.{tail-lent}
 use Rattle.text.specs.Utf8.{tails, step, textFault}
 use Rattle.text.specs.declared.Due.{Due}
 use Rattle.text.specs.declared.Due.the-variants.{Start, Tail}
@@ -51,3 +52,29 @@ moved-start (some m) = ap some (omega arith)
 pub tails-more : (n : ℕ) → (n ≡ 0 → ⊥) → Tail (n - 1) 0x80 0xbf ≡ tails n
 tails-more zero h = absurd (h refl)
 tails-more (suc n) h = let e : suc n - 1 ≡ n = omega arith in rw e
+
+-- ---- bounds
+
+-- a fault's place lies inside, or at the end
+abbrev pub FaultWithin : ℕ → Option ℕ → Type 0
+FaultWithin n none = Unit
+FaultWithin n (some m) = m ≤ n
+
+pub fault-within : (plain : ℕ → Bool) (due : Due) (s : List ℕ) → FaultWithin (length s) (textFault plain due s)
+unfolding textFault
+fault-within plain Start [] = tt
+fault-within plain (Tail more low high) [] = omega arith
+fault-within plain due (b ∷ bs) = rw (fault-cons plain due b bs) (go (step plain due b) (λ next. fault-within plain next bs))
+  where
+    one-more : (o : Option ℕ) → FaultWithin (length bs) o → FaultWithin (suc (length bs)) (Option·map suc o)
+    one-more none h = tt
+    one-more (some m) h = omega arith
+
+    go : (o : Option Due) → ((next : Due) → FaultWithin (length bs) (textFault plain next bs))
+        → FaultWithin (suc (length bs)) (maybe o (some 0) (λ next. Option·map suc (textFault plain next bs)))
+    go none h = omega arith
+    go (some next) h = one-more (textFault plain next bs) (h next)
+
+-- the same of a tail that was lent
+pub fault-lent : (plain : ℕ → Bool) (s : List ℕ) (from : ℕ) → FaultWithin (length s - from) (textFault plain Start (take (length s - from) (drop from s)))
+fault-lent plain s from = rw (tail-lent from s, ← length-drop from s) (fault-within plain Start (drop from s))

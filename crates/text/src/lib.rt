@@ -99,8 +99,8 @@ pub fn write_text(text: &[u8], out: &mut [u8]) -> Written
     match utf8::scan(text, Class::Text) {
         Scan::Fault(_) => Written::Refused(Fault::UnfitText),
         Scan::Sound => {
-            let n = escape::raw_length(text);
-            if out.len() < n {
+            let size = escape::raw_length(text);
+            if out.len() < size {
                 return Written::Refused(Fault::NoRoom);
             }
             Written::Bytes(escape::write_raw(text, out))

@@ -1,0 +1,198 @@
+-- A text that can be set is written as a value that an entry may have. Assumes nothing.
+use mathlib.Core.Path.{_≡_, refl, sym, ap, _∙_, subst}
+use Prim.Native.Nat.{ℕ, zero, suc, _≤_, _<_}
+use native.Mathlib.Omega.{arith}
+use mathlib.Core.Bool.{Bool, true, false, not, _&&_, _||_, false≢true}
+use mathlib.Core.Option.{Option, none, some, Option·map}
+use mathlib.Core.List.{List, [], _∷_, _++_}
+use lib.Dec.{eqb, leb, ltb}
+use borrow.Author.Tests.{eqb-true, lt-leb}
+use Rattle.base.specs.Choice.{pick, maybe, there}
+use Rattle.base.specs.Lists.{ascii, span}
+use Rattle.text.specs.Class.{within, spaceByte, valueByte, textByte}
+use Rattle.text.specs.Utf8.{lead, tails, step, textFault}
+use Rattle.text.specs.declared.Due.{Due}
+use Rattle.text.specs.declared.Due.the-variants.{Start, Tail}
+use Rattle.text.specs.Escape.{escaped, escapedAll, rawText, fitText}
+use Rattle.base.proofs.Tests.{no, by-test}
+use Rattle.base.proofs.Clean.{Clean}
+
+-- ---- what is due: only bytes over 0x7F finish a character
+
+abbrev High : Due → Type 0
+High Start = Unit
+High (Tail more low high) = 128 ≤ low
+
+high-of : (x y : Due) → some x ≡ some y → High x → High y
+high-of x y e h = let p : x ≡ y = cc in subst High p h
+
+lead-high : (b : ℕ) (d : Due) → lead b ≡ some d → High d
+unfolding lead
+lead-high b d e = by (within 194 223 b) (eqb b 224) (eqb b 237) (within 225 239 b) (eqb b 240) (within 241 243 b) (eqb b 244) e
+  where
+    by : (t₁ t₂ t₃ t₄ t₅ t₆ t₇ : Bool)
+        → pick t₁ (some (Tail 0 128 191))
+        (pick t₂ (some (Tail 1 160 191))
+        (pick t₃ (some (Tail 1 128 159))
+        (pick t₄ (some (Tail 1 128 191))
+        (pick t₅ (some (Tail 2 144 191))
+        (pick t₆ (some (Tail 2 128 191)) (pick t₇ (some (Tail 2 128 143)) none)))))) ≡ some d → High d
+    by true t₂ t₃ t₄ t₅ t₆ t₇ e = high-of _ d e (omega arith)
+    by false true t₃ t₄ t₅ t₆ t₇ e = high-of _ d e (omega arith)
+    by false false true t₄ t₅ t₆ t₇ e = high-of _ d e (omega arith)
+    by false false false true t₅ t₆ t₇ e = high-of _ d e (omega arith)
+    by false false false false true t₆ t₇ e = high-of _ d e (omega arith)
+    by false false false false false true t₇ e = high-of _ d e (omega arith)
+    by false false false false false false true e = high-of _ d e (omega arith)
+    by false false false false false false false e = no (cc)
+
+tails-high : (n : ℕ) → High (tails n)
+tails-high zero = tt
+tails-high (suc n) = omega arith
+
+step-high : (plain : ℕ → Bool) (d : Due) (b : ℕ) (next : Due) → High d → step plain d b ≡ some next → High next
+unfolding step
+step-high plain Start b next h e = by (ltb b 128) (plain b) e
+  where
+    by : (t u : Bool) → pick t (pick u (some Start) none) (lead b) ≡ some next → High next
+    by true true e = high-of Start next e tt
+    by true false e = no (cc)
+    by false u e = lead-high b next e
+step-high plain (Tail more low high) b next h e = by (within low high b) e
+  where
+    by : (t : Bool) → pick t (some (tails more)) none ≡ some next → High next
+    by true e = high-of (tails more) next e (tails-high more)
+    by false e = no (cc)
+
+-- an ASCII byte stands only where a character may begin
+low-start : (plain : ℕ → Bool) (d : Due) (b : ℕ) (next : Due) → b < 128 → High d → step plain d b ≡ some next → d ≡ Start
+unfolding step
+low-start plain Start b next l h e = refl
+low-start plain (Tail more low high) b next l h e =
+    let z : none ≡ some next = sym (ap (λ (t : Bool). pick (t && leb b high) (some (tails more)) none) (lt-leb low b (omega arith))) ∙ e in no (cc)
+
+-- ---- a text byte by byte
+
+pub record Goes (plain : ℕ → Bool) (d : Due) (b : ℕ) (s : List ℕ) : Type 0 where
+  pub next : Due
+  pub one : step plain d b ≡ some next
+  pub rest : textFault plain next s ≡ none
+
+map-none : (o : Option ℕ) → Option·map suc o ≡ none → o ≡ none
+map-none none e = refl
+map-none (some n) e = no (cc)
+
+goes : (plain : ℕ → Bool) (d : Due) (b : ℕ) (s : List ℕ) → textFault plain d (b ∷ s) ≡ none → Goes plain d b s
+unfolding textFault
+goes plain d b s e = by (step plain d b) refl e
+  where
+    by : (o : Option Due) → step plain d b ≡ o → maybe o (some 0) (λ next. Option·map suc (textFault plain next s)) ≡ none → Goes plain d b s
+    by none i e = no (cc)
+    by (some next) i e = record { next = next; one = i; rest = map-none (textFault plain next s) e }
+
+went : (plain : ℕ → Bool) (d : Due) (b : ℕ) (s : List ℕ) (next : Due) → step plain d b ≡ some next → textFault plain next s ≡ none → textFault plain d (b ∷ s) ≡ none
+unfolding textFault
+went plain d b s next e f = rw (e, f)
+
+-- ---- a text as a value
+
+-- a byte written as a pair
+pair-goes : (b c : ℕ) (d next : Due) (s : List ℕ) → b < 128 → step textByte Start b ≡ some Start → step valueByte Start c ≡ some Start → High d → step textByte d b ≡ some next
+    → textFault valueByte next s ≡ none → textFault valueByte d (92 ∷ c ∷ s) ≡ none
+pair-goes b c d next s l o p h e f =
+    let i : d ≡ Start = low-start textByte d b next l h e in
+    let j : some next ≡ some Start = sym e ∙ ap (λ (x : Due). step textByte x b) i ∙ o in
+    let k : next ≡ Start = cc in
+    rw i (went valueByte Start 92 (c ∷ s) Start (unfold step valueByte in refl) (went valueByte Start c s Start p (rw k at f)))
+
+plain-same : (b : ℕ) → eqb b 10 ≡ false → eqb b 9 ≡ false → eqb b 13 ≡ false → textByte b ≡ valueByte b
+unfolding textByte
+plain-same b e₁ e₂ e₃ = rw (e₁, e₂, e₃) (by (valueByte b))
+  where
+    by : (t : Bool) → (t || false || false || false) ≡ t
+    by true = refl
+    by false = refl
+
+plain-step : (b : ℕ) (d : Due) → textByte b ≡ valueByte b → step textByte d b ≡ step valueByte d b
+unfolding step
+plain-step b Start e = rw e
+plain-step b (Tail more low high) e = refl
+
+escaped-goes : (b : ℕ) (d next : Due) (s : List ℕ) → High d → step textByte d b ≡ some next → textFault valueByte next s ≡ none → textFault valueByte d (escaped b ++ s) ≡ none
+unfolding escaped
+escaped-goes b d next s h e f =
+    by-test (eqb b 92)
+    (λ t₁. rw t₁ (pair 92 92 t₁ (omega arith) (unfold step textByte valueByte in refl) (unfold step valueByte in refl)))
+    (λ n₁. by-test (eqb b 10)
+    (λ t₂. rw (n₁, t₂) (pair 10 110 t₂ (omega arith) (unfold step textByte valueByte in refl) (unfold step valueByte in refl)))
+    (λ n₂. by-test (eqb b 9)
+    (λ t₃. rw (n₁, n₂, t₃) (pair 9 116 t₃ (omega arith) (unfold step textByte valueByte in refl) (unfold step valueByte in refl)))
+    (λ n₃. by-test (eqb b 13)
+    (λ t₄. rw (n₁, n₂, n₃, t₄) (pair 13 114 t₄ (omega arith) (unfold step textByte valueByte in refl) (unfold step valueByte in refl)))
+    (λ n₄. rw (n₁, n₂, n₃, n₄) (went valueByte d b s next (sym (plain-step b d (plain-same b n₂ n₃ n₄)) ∙ e) f)))))
+  where
+    pair : (k c : ℕ) → eqb b k ≡ true → k < 128 → step textByte Start k ≡ some Start → step valueByte Start c ≡ some Start → textFault valueByte d (92 ∷ c ∷ s) ≡ none
+    pair k c t l o p = let i = eqb-true b k t in pair-goes b c d next s (omega arith) (rw i o) p h e f
+
+unfinished : (more low high : ℕ) → textFault textByte (Tail more low high) [] ≡ none → ⊥
+unfolding textFault
+unfinished more low high e = no (cc)
+
+escapedAll-goes : (t : List ℕ) (d : Due) → High d → textFault textByte d t ≡ none → textFault valueByte d (escapedAll t) ≡ none
+unfolding escapedAll
+escapedAll-goes [] Start h e = unfold textFault in refl
+escapedAll-goes [] (Tail more low high) h e = absurd (unfinished more low high e)
+escapedAll-goes (b ∷ t) d h e =
+    let g = goes textByte d b t e in
+    escaped-goes b d (g .next) (escapedAll t) h (g .one) (escapedAll-goes t (g .next) (step-high textByte d b (g .next) h (g .one)) (g .rest))
+
+fit-text : (t : List ℕ) → fitText t ≡ true → textFault textByte Start t ≡ none
+unfolding fitText
+fit-text t e = by (textFault textByte Start t) e
+  where
+    by : (o : Option ℕ) → not (there o) ≡ true → o ≡ none
+    by none e = refl
+    by (some n) e = absurd (false≢true e)
+
+-- a written text is a value
+pub raw-text : (t : List ℕ) → fitText t ≡ true → textFault valueByte Start (rawText t) ≡ none
+unfolding rawText
+raw-text [] e = unfold textFault in refl
+raw-text (b ∷ t) e =
+    let g = goes textByte Start b t (fit-text (b ∷ t) e) in
+    let f = escapedAll-goes t (g .next) (step-high textByte Start b (g .next) tt (g .one)) (g .rest) in
+    by-test (eqb b 32)
+    (λ i. let j = eqb-true b 32 i in rw i (pair-goes b 115 Start (g .next) (escapedAll t) (omega arith) (rw j (unfold step textByte valueByte in refl)) (unfold step valueByte in refl) tt (g .one) f))
+    (λ n. rw n (escaped-goes b Start (g .next) (escapedAll t) tt (g .one) f))
+
+-- it begins with no space
+pub raw-front : (t : List ℕ) → span spaceByte (rawText t) ≡ 0
+unfolding rawText span escaped
+raw-front [] = refl
+raw-front (b ∷ t) = by (eqb b 32) (eqb b 92) (eqb b 10) (eqb b 9) (eqb b 13) refl
+  where
+    by : (t₀ t₁ t₂ t₃ t₄ : Bool) → eqb b 32 ≡ t₀
+        → span spaceByte (pick t₀ (ascii "\\s") (pick t₁ (ascii "\\\\") (pick t₂ (ascii "\\n") (pick t₃ (ascii "\\t") (pick t₄ (ascii "\\r") (b ∷ []))))) ++ escapedAll t) ≡ 0
+    by true t₁ t₂ t₃ t₄ e = refl
+    by false true t₂ t₃ t₄ e = refl
+    by false false true t₃ t₄ e = refl
+    by false false false true t₄ e = refl
+    by false false false false true e = refl
+    by false false false false false e = rw e
+
+-- a value has no LF
+no-LF : (d next : Due) → High d → step valueByte d 10 ≡ some next → ⊥
+unfolding step valueByte
+no-LF d next h o =
+    let j = low-start valueByte d 10 next (omega arith) h o in
+    let z : step valueByte Start 10 ≡ some next = ap (λ (x : Due). step valueByte x 10) (sym j) ∙ o in
+    no (cc)
+
+fault-clean : (s : List ℕ) (d : Due) → High d → textFault valueByte d s ≡ none → Clean s
+fault-clean [] d h e = tt
+fault-clean (b ∷ s) d h e =
+    let g = goes valueByte d b s e in
+    (by-test (eqb b 10) (λ t. absurd (no-LF d (g .next) h (ap (step valueByte d) (sym (eqb-true b 10 t)) ∙ g .one))) (λ n. n), fault-clean s (g .next) (step-high valueByte d b (g .next) h (g .one)) (g .rest))
+
+pub value-clean : (s : List ℕ) → textFault valueByte Start s ≡ none → Clean s
+value-clean s e = fault-clean s Start tt e
