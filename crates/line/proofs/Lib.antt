@@ -1,0 +1,2 @@
+pub mod Locales
+pub mod Bounds

@@ -1,0 +1,4 @@
+pub mod Locale
+pub mod Name
+pub mod Line
+pub mod Form
