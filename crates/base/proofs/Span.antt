@@ -1,13 +1,15 @@
 -- How far the bytes of a class reach at the front of a list. Assumes nothing.
-use mathlib.Core.Path.{_≡_, refl, sym, _∙_}
+use mathlib.Core.Path.{_≡_, refl, sym, ap, _∙_}
 use Prim.Native.Nat.{ℕ, suc, _+_, _≤_, _<_}
 use native.Mathlib.Omega.{arith}
 use mathlib.Core.Bool.{Bool, true, false, _&&_}
-use mathlib.Core.List.{List, [], _∷_}
+use mathlib.Core.List.{List, [], _∷_, _++_}
 use lib.ListN.{length, drop, length-drop}
+use lib.Seq.{drop-append-le}
 use lib.Dec.{eqb, eqb·zero-suc, eqb·suc-suc}
 use Rattle.base.specs.Choice.{pick}
 use Rattle.base.specs.Lists.{span, all}
+use Rattle.base.proofs.Tests.{and-both}
 
 pub span-le : (p : ℕ → Bool) (s : List ℕ) → span p s ≤ length s
 unfolding span
@@ -31,3 +33,49 @@ span-all p (b ∷ s) = go (p b) (span-all p s)
     go : (t : Bool) → eqb (span p s) (length s) ≡ all p s → eqb (pick t (suc (span p s)) 0) (suc (length s)) ≡ (t && all p s)
     go true h = eqb·suc-suc (span p s) (length s) ∙ h
     go false h = eqb·zero-suc (length s)
+
+-- ---- a front p with another ending w
+
+-- a place inside p, or at its end, where w stops what is read
+abbrev pub Cut : Type 0 → List ℕ → ℕ → Type 0
+Cut stops p n = (n ≤ length p) × (n ≡ length p → stops)
+
+pub cut-le : (stops : Type 0) (p : List ℕ) (m n : ℕ) → m ≤ n → Cut stops p n → Cut stops p m
+cut-le stops p m n h c = let l = c .0 in (omega arith, λ e. c .1 (omega arith))
+
+pub cut-inside : (stops : Type 0) (p : List ℕ) (n : ℕ) → n < length p → Cut stops p n
+cut-inside stops p n h = (omega arith, λ e. absurd (omega arith))
+
+-- what is read up to a place is the same with w, where w stops it
+abbrev pub Sames : {A : Type 0} → (A → ℕ) → (List ℕ → A) → List ℕ → Type 0 → Type 0
+Sames place f w stops = (p v : List ℕ) → Cut stops p (place (f (p ++ v))) → f (p ++ w) ≡ f (p ++ v)
+
+-- the same from a place inside on
+pub same-at : {A : Type 0} (place : A → ℕ) (f : List ℕ → A) (w : List ℕ) (stops : Type 0) → Sames place f w stops
+    → (p v : List ℕ) (n : ℕ) → Cut stops p (n + place (f (drop n (p ++ v)))) → f (drop n (p ++ w)) ≡ f (drop n (p ++ v))
+same-at place f w stops s p v n c =
+    let h : n ≤ length p = omega (arith, c .0) in
+    let a = drop-append-le n p v h in
+    let b : n + place (f (drop n p ++ v)) ≤ length p = rw (← a) (c .0) in
+    let d = length-drop n p in
+    let k : Cut stops (drop n p) (place (f (drop n p ++ v))) = (omega arith, λ e. c .1 (rw a (omega arith))) in
+    rw (drop-append-le n p w h, a) (s (drop n p) v k)
+
+pub span-same : (q : ℕ → Bool) (w : List ℕ) → Sames (λ n. n) (span q) w (span q w ≡ 0)
+unfolding span
+span-same q w [] v c = let e : span q v ≡ 0 = omega (arith, c .0) in c .1 e ∙ sym e
+span-same q w (b ∷ p) v c = go (q b) c (span-same q w p v)
+  where
+    go : (t : Bool) → Cut (span q w ≡ 0) (b ∷ p) (pick t (suc (span q (p ++ v))) 0) → (Cut (span q w ≡ 0) p (span q (p ++ v)) → span q (p ++ w) ≡ span q (p ++ v))
+        → pick t (suc (span q (p ++ w))) 0 ≡ pick t (suc (span q (p ++ v))) 0
+    go true c r = let h = c .0 in ap suc (r (omega arith, λ e. c .1 (ap suc e)))
+    go false c r = refl
+
+pub span-same-at : (q : ℕ → Bool) (w p v : List ℕ) (n : ℕ) → Cut (span q w ≡ 0) p (n + span q (drop n (p ++ v))) → span q (drop n (p ++ w)) ≡ span q (drop n (p ++ v))
+span-same-at q w = same-at (λ n. n) (span q) w (span q w ≡ 0) (span-same q w)
+
+-- where all are of another class
+pub span-none : (p q : ℕ → Bool) → ((b : ℕ) → p b ≡ true → q b ≡ false) → (s : List ℕ) → all p s ≡ true → span q s ≡ 0
+unfolding span all
+span-none p q i [] e = refl
+span-none p q i (b ∷ s) e = rw (i b (and-both (p b) (all p s) e .0))

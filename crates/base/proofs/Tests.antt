@@ -1,12 +1,12 @@
 -- What tests say, and what equal constructors cannot be. Assumes nothing.
-use mathlib.Core.Path.{_≡_, refl, sym, ap₂, _∙_}
+use mathlib.Core.Path.{_≡_, refl, sym, ap, ap₂, _∙_}
 use Prim.Native.Nat.{ℕ, zero, suc}
 use native.Mathlib.Omega.{arith}
 use mathlib.Core.Bool.{Bool, true, false, _&&_, _||_, false≢true}
 use mathlib.Core.List.{List, [], _∷_}
 use lib.Dec.{eqb, eqb·zero-suc, eqb·suc-zero, eqb·suc-suc}
 use borrow.Author.Tests.{eq-eqb, eqb-true}
-use Rattle.base.specs.Lists.{same}
+use Rattle.base.specs.Lists.{same, all}
 
 -- anything, where two constructors would be equal: `no (cc)`
 pub no {ℓ} : {X : Type ℓ} → _≡_ {A = ℕ} 0 1 → X
@@ -25,11 +25,21 @@ pub or-both : (a b : Bool) → (a || b) ≡ false → (a ≡ false) × (b ≡ fa
 or-both true b e = no (cc)
 or-both false b e = (refl, e)
 
+-- a byte of a class is none that is not of it
+pub class-other : (p : ℕ → Bool) (b c : ℕ) → p c ≡ false → p b ≡ true → eqb b c ≡ false
+class-other p b c n h = by-test (eqb b c) (λ e. absurd (false≢true (sym n ∙ ap p (sym (eqb-true b c e)) ∙ h))) (λ e. e)
+
 pub eqb-sym : (m n : ℕ) → eqb m n ≡ eqb n m
 eqb-sym zero zero = refl
 eqb-sym zero (suc n) = eqb·zero-suc n ∙ sym (eqb·suc-zero n)
 eqb-sym (suc m) zero = eqb·suc-zero m ∙ sym (eqb·zero-suc m)
 eqb-sym (suc m) (suc n) = eqb·suc-suc m n ∙ eqb-sym m n ∙ sym (eqb·suc-suc n m)
+
+-- what all pass, all pass that is implied
+pub all-weaker : {A : Type 0} (p q : A → Bool) → ((x : A) → p x ≡ true → q x ≡ true) → (s : List A) → all p s ≡ true → all q s ≡ true
+unfolding all
+all-weaker p q i [] e = refl
+all-weaker p q i (x ∷ s) e = let b = and-both (p x) (all p s) e in rw (i x (b .0), all-weaker p q i s (b .1))
 
 -- ---- byte for byte the same
 

@@ -1,6 +1,6 @@
 -- The bounds that a line's reading tells lie in the line, in their order. Assumes nothing.
-use mathlib.Core.Path.{_≡_, refl, sym, _∙_}
-use Prim.Native.Nat.{ℕ, suc, _+_, _≤_, _<_}
+use mathlib.Core.Path.{_≡_, refl, sym}
+use Prim.Native.Nat.{ℕ, _+_, _≤_, _<_}
 use native.Mathlib.Omega.{arith}
 use mathlib.Core.Bool.{Bool, true, false}
 use mathlib.Core.Option.{Option, none, some}
@@ -8,7 +8,7 @@ use mathlib.Core.List.{List}
 use lib.ListN.{length, drop, length-drop}
 use lib.Dec.{eqb}
 use borrow.Author.Tests.{eqb-true, eqb-false}
-use Rattle.base.specs.Choice.{pick, maybe}
+use Rattle.base.specs.Choice.{pick}
 use Rattle.base.specs.Lists.{span}
 use Rattle.base.proofs.Scan.{inside}
 use Rattle.base.proofs.Span.{span-le, span-from}
@@ -25,6 +25,7 @@ use Rattle.line.specs.declared.Named.{Named}
 use Rattle.line.specs.declared.Named.the-variants.{Name, NoName}
 use Rattle.line.specs.declared.Line.{Line}
 use Rattle.line.specs.declared.Line.the-variants.{Blank, Comment, Header, Entry, Bad}
+use Rattle.line.proofs.Cases.{signAt, valueAt, afterBy, headerBy}
 use Rattle.line.proofs.Locales.{LocaleWithin, locale-within, postfixOf, postfix-by}
 
 -- a byte that is not 0 stands inside
@@ -76,13 +77,13 @@ unfolding entryAfter
 after-within s key name h i j = go (eqb (byteAt s sign) 61) (textFault valueByte Start (drop value s)) refl (fault-within valueByte Start (drop value s))
   where
     sign : ℕ
-    sign = name + span spaceByte (drop name s)
+    sign = signAt s name
 
     value : ℕ
-    value = sign + 1 + span spaceByte (drop (sign + 1) s)
+    value = valueAt s name
 
     go : (t : Bool) (o : Option ℕ) → eqb (byteAt s sign) 61 ≡ t → FaultWithin (length (drop value s)) o
-        → LineWithin (length s) (pick t (maybe o (Entry key name value) (λ n. Bad (value + n))) (Bad sign))
+        → LineWithin (length s) (afterBy key name sign value t o)
     go false o e k = span-from spaceByte s name j
     go true none e k = (h, i, omega arith, span-from spaceByte s (sign + 1) (omega (arith, byte-within s sign 61 (omega arith) e)))
     go true (some n) e k =
@@ -104,7 +105,7 @@ header-within s h = go (eqb e 1) (eqb (byteAt s e) 93) (eqb (e + 1) (length s)) 
     e = 1 + span groupByte (drop 1 s)
 
     go : (t u v : Bool) → eqb e 1 ≡ t → eqb (byteAt s e) 93 ≡ u → eqb (e + 1) (length s) ≡ v
-        → LineWithin (length s) (pick t (Bad 1) (pick u (pick v (Header e) (Bad (e + 1))) (Bad e)))
+        → LineWithin (length s) (headerBy e t u v)
     go true u v i j k = h
     go false false v i j k = span-from groupByte s 1 h
     go false true true i j k = let z = eqb-false e 1 i in (omega arith, eqb-true (e + 1) (length s) k)

@@ -1,2 +1,6 @@
+pub mod Cases
 pub mod Locales
 pub mod Bounds
+pub mod Fronts
+pub mod Ending
+pub mod Place

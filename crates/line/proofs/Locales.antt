@@ -49,7 +49,7 @@ abbrev PartWithin : ℕ → Option ℕ → Type 0
 PartWithin n none = Unit
 PartWithin n (some m) = m ≤ n
 
-pub empty-within : (p : Parts) → PartWithin (localeEnd p) (emptyPart p)
+empty-within : (p : Parts) → PartWithin (localeEnd p) (emptyPart p)
 unfolding emptyPart
 empty-within p = go (eqb (p .lang) 0) (eqb (p .country) 1) (eqb (p .encoding) 1) (eqb (p .modifier) 1) refl refl refl
   where

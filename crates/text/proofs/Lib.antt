@@ -5,3 +5,4 @@ pub mod Writing
 pub mod Elements
 pub mod ReadBack
 pub mod Values
+pub mod Endings

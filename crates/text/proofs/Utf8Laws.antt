@@ -1,5 +1,5 @@
 -- A scan of UTF-8 in progress: what is found from a place on, counted from the start. Assumes nothing.
-use mathlib.Core.Path.{_≡_, refl, ap, _∙_}
+use mathlib.Core.Path.{_≡_, refl, ap}
 use Prim.Native.Nat.{ℕ, zero, suc, _+_, _-_, _≤_, _<_}
 use native.Mathlib.Omega.{arith}
 use mathlib.Core.Bool.{Bool}
@@ -22,7 +22,7 @@ moved-suc n none = refl
 moved-suc n (some m) = ap some (omega arith)
 
 -- one byte more, whatever is due
-fault-cons : (plain : ℕ → Bool) (due : Due) (b : ℕ) (bs : List ℕ)
+pub fault-cons : (plain : ℕ → Bool) (due : Due) (b : ℕ) (bs : List ℕ)
     → textFault plain due (b ∷ bs) ≡ maybe (step plain due b) (some 0) (λ next. Option·map suc (textFault plain next bs))
 unfolding textFault
 fault-cons plain Start b bs = refl
