@@ -1,10 +1,10 @@
 -- How far the bytes of a class reach at the front of a list. Assumes nothing.
 use mathlib.Core.Path.{_≡_, refl, sym, ap, _∙_}
-use Prim.Native.Nat.{ℕ, suc, _+_, _≤_, _<_}
+use Prim.Native.Nat.{ℕ, zero, suc, _+_, _≤_, _<_}
 use native.Mathlib.Omega.{arith}
 use mathlib.Core.Bool.{Bool, true, false, _&&_}
 use mathlib.Core.List.{List, [], _∷_, _++_}
-use lib.ListN.{length, drop, length-drop}
+use lib.ListN.{length, take, drop, length-drop}
 use lib.Seq.{drop-append-le}
 use lib.Dec.{eqb, eqb·zero-suc, eqb·suc-suc}
 use Rattle.base.specs.Choice.{pick}
@@ -79,3 +79,17 @@ pub span-none : (p q : ℕ → Bool) → ((b : ℕ) → p b ≡ true → q b ≡
 unfolding span all
 span-none p q i [] e = refl
 span-none p q i (b ∷ s) e = rw (i b (and-both (p b) (all p s) e .0))
+
+-- a front that the span ends in has the same
+pub span-take : (p : ℕ → Bool) (n : ℕ) (s : List ℕ) → span p s ≤ n → span p (take n s) ≡ span p s
+unfolding span
+span-take p zero s h = sym (zero-of (span p s) h)
+  where
+    zero-of : (m : ℕ) → m ≤ 0 → m ≡ 0
+    zero-of m h = omega arith
+span-take p (suc n) [] h = refl
+span-take p (suc n) (b ∷ s) h = go (p b) h (span-take p n s)
+  where
+    go : (t : Bool) → pick t (suc (span p s)) 0 ≤ suc n → (span p s ≤ n → span p (take n s) ≡ span p s) → pick t (suc (span p (take n s))) 0 ≡ pick t (suc (span p s)) 0
+    go true h f = ap suc (f (omega arith))
+    go false h f = refl

@@ -19,8 +19,8 @@ use Rattle.text.specs.declared.Due.the-variants.{Start}
 use Rattle.text.proofs.Endings.{tailByte, TextEnding, text-ending}
 use Rattle.line.specs.Locale.{marked, parts, emptyPart, localeAt}
 use Rattle.line.specs.Name.{byteAt, postfixAt, readName}
-use Rattle.line.specs.Line.{entryAfter, readLine}
-use Rattle.line.specs.Place.{isBad, lineByte, Mended}
+use Rattle.line.specs.Line.{entryAfter, readLine, isBad}
+use Rattle.line.specs.Place.{lineByte, Mended}
 use Rattle.line.specs.declared.Line.the-variants.{Bad}
 use Rattle.line.specs.declared.Locale.{Locale}
 use Rattle.line.specs.declared.Locale.the-variants.{End, Unfinished}

@@ -4,3 +4,5 @@ pub mod Bounds
 pub mod Fronts
 pub mod Ending
 pub mod Place
+pub mod Entries
+pub mod FirstByte

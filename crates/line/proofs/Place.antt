@@ -17,8 +17,8 @@ use Rattle.text.specs.Utf8.{textFault}
 use Rattle.text.specs.declared.Due.the-variants.{Start}
 use Rattle.text.proofs.Endings.{fault-inside}
 use Rattle.line.specs.Name.{byteAt, readName}
-use Rattle.line.specs.Line.{entryAfter, entryOf, readEntry, readHeader, readLine}
-use Rattle.line.specs.Place.{isBad, BadByte, Mended, GoodBefore}
+use Rattle.line.specs.Line.{entryAfter, entryOf, readEntry, readHeader, readLine, isBad}
+use Rattle.line.specs.Place.{BadByte, Mended, GoodBefore}
 use Rattle.line.specs.declared.Named.{Named}
 use Rattle.line.specs.declared.Named.the-variants.{Name, NoName}
 use Rattle.line.specs.declared.Line.the-variants.{Header, Bad}

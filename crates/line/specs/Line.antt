@@ -1,7 +1,7 @@
 -- What a line is: blank, comment, header, entry or bad (01, "Lines of a file"). Assumes nothing.
 use Prim.Native.Nat.{ℕ, _+_}
 use Prim.Native.Char.{Char, code}
-use mathlib.Core.Bool.{Bool}
+use mathlib.Core.Bool.{Bool, true, false}
 use mathlib.Core.List.{List}
 use lib.ListN.{length, drop}
 use lib.Dec.{eqb}
@@ -49,3 +49,11 @@ readLine s =
     (pick (eqb (byteAt s 0) (code "#")) Comment
     (pick (eqb (byteAt s 0) (code "[")) (readHeader s)
     (pick (eqb blank 0) (readEntry s) (Bad blank))))
+
+-- a bad line
+abbrev pub isBad : Line → Bool
+isBad Blank = false
+isBad Comment = false
+isBad (Header end) = false
+isBad (Entry key name value) = false
+isBad (Bad n) = true

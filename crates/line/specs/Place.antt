@@ -7,17 +7,8 @@ use mathlib.Core.List.{List, _++_}
 use lib.ListN.{length, take}
 use lib.Dec.{eqb, ltb}
 use Rattle.base.specs.Lists.{all}
-use Rattle.line.specs.Line.{readLine}
-use Rattle.line.specs.declared.Line.{Line}
-use Rattle.line.specs.declared.Line.the-variants.{Blank, Comment, Header, Entry, Bad}
-
--- no blank, no comment, no header and no entry
-abbrev pub isBad : Line → Bool
-isBad Blank = false
-isBad Comment = false
-isBad (Header end) = false
-isBad (Entry key name value) = false
-isBad (Bad n) = true
+use Rattle.line.specs.Line.{readLine, isBad}
+use Rattle.line.specs.declared.Line.the-variants.{Bad}
 
 -- a byte of a line: any but LF
 abbrev pub lineByte : ℕ → Bool

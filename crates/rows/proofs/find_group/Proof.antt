@@ -1,0 +1,75 @@
+-- `rows::find_group` meets its contract: the rows from `p` on have the answer. Assumes nothing.
+use borrow.Author.Needs.{needs}
+use native.Mathlib.Omega.{arith}
+use lib.ListN.{length}
+use Prim.Native.Nat.{_-_}
+use Rattle.rows.proofs.Step.{end-le}
+use Rattle.rows.proofs.Seek.{Seek, seek-start, seek-end, seek-header, group-plain, group-other, group-hit}
+use Rattle.rows.specs.Title.{Group}
+use Rattle.rows.proofs.find_group.Statement.{statement}
+use Rattle.rows.proofs.find_group.Tie as tie
+
+abbrev Inv-loop : tie.InvT-loop
+Inv-loop file group p₀ n₀ p n = Seek file (Group group) p n
+
+abbrev μ-loop : tie.MeasureT-loop
+μ-loop file group p₀ n₀ p n = length file - p
+
+part-l-end : tie.Need-part-l-end Inv-loop μ-loop
+part-l-end c =
+    let l = c .before .before in
+    end-le (l .before .before .before .args .file .now) {p = l .loop .p} (search needs) (c .line-end .ensures)
+
+sub-same : tie.Need-sub-same Inv-loop μ-loop
+sub-same c =
+    let e = c .before .before .before in
+    let l = e .before .before in
+    omega (arith, seek-header (l .loop .inv) (search needs) (e .line-end .ensures) (rw (c .if1 .taken) at (c .before .is-header .ensures)) .1)
+
+returns : tie.Need-returns Inv-loop μ-loop
+returns c =
+    let e = c .before .before .before .before .before .before in
+    let l = e .before .before in
+    let b = rw (c .before .before .before .if1 .taken) at (c .before .before .before .before .is-header .ensures) in
+    group-hit (l .loop .inv) (search needs) (e .line-end .ensures) b (rw (c .if2 .taken) at (c .before .same .ensures))
+
+loop-again : tie.Need-loop-again Inv-loop μ-loop
+loop-again c =
+    let e = c .before .before .before .before .before .before in
+    let l = e .before .before in
+    let b = rw (c .before .before .before .if1 .taken) at (c .before .before .before .before .is-header .ensures) in
+    group-other (l .loop .inv) (search needs) (e .line-end .ensures) b (rw (c .if2 .left) at (c .before .same .ensures))
+
+loop-again-2 : tie.Need-loop-again-2 Inv-loop μ-loop
+loop-again-2 c =
+    let e = c .before .before .before in
+    let l = e .before .before in
+    group-plain (l .loop .inv) (search needs) (e .line-end .ensures) (rw (c .if1 .left) at (c .before .is-header .ensures))
+
+pub find-group-spec : {M : Type 1} → statement M
+find-group-spec =
+    tie.close
+    (tie.spec
+    Inv-loop
+    μ-loop
+    (λ c. seek-start _ _ (c .before .before .pre))
+    (λ c κs. search needs)
+    (λ c. search needs)
+    (λ c. search needs)
+    part-l-end
+    (λ c κs. search needs)
+    (λ c. omega (arith, sub-same c))
+    sub-same
+    (λ c. omega (arith, sub-same c))
+    (λ c. omega (arith, sub-same c))
+    (λ c κs. search needs)
+    returns
+    (λ c. omega (arith, part-l-end (c .before .before .before .before .before .before)))
+    (λ c. search needs)
+    (λ c. search needs)
+    loop-again
+    (λ c. omega (arith, part-l-end (c .before .before .before)))
+    (λ c. search needs)
+    (λ c. search needs)
+    loop-again-2
+    (λ c. seek-end (c .before .loop .inv) (c .loop-test .left)))

@@ -1,0 +1,44 @@
+-- What the functions of this crate answer, by the definitions of rows. Assumes nothing.
+use Prim.Native.Nat.{ℕ, suc, _+_}
+use Prim.Native.Char.{Char, code}
+use mathlib.Core.Bool.{Bool, false, not}
+use mathlib.Core.Option.{Option}
+use mathlib.Core.List.{List, [], _∷_}
+use lib.ListN.{length, take}
+use lib.Dec.{eqb}
+use Rattle.base.specs.Choice.{pick, maybe}
+use Rattle.base.specs.Lists.{same, any}
+use Rattle.line.specs.declared.Line.{Line}
+use Rattle.line.specs.declared.Line.the-variants.{Blank, Comment, Header, Entry, Bad}
+use Rattle.line.specs.declared.Named.{Named}
+use Rattle.line.specs.declared.Named.the-variants.{Name, NoName}
+use Rattle.line.specs.Line.{isBad}
+use Rattle.rows.specs.Rows.{Row, lineOf, readRows}
+use Rattle.rows.specs.declared.Found.{Found}
+use Rattle.rows.specs.declared.Found.the-variants as found
+
+-- the length of the first line, without its LF
+unfoldable pub lineLength : List ℕ → ℕ
+lineLength [] = 0
+lineLength (b ∷ bs) = let more : ℕ = suc (lineLength bs) in pick (eqb b (code "\n")) 0 more
+
+-- where an entry's value starts in its line
+abbrev pub valueStart : Line → ℕ
+valueStart Blank = 0
+valueStart Comment = 0
+valueStart (Header e) = 0
+valueStart (Entry key name value) = value
+valueStart (Bad n) = 0
+
+-- no row is bad
+unfoldable pub noneBad : List ℕ → Bool
+noneBad file = not (any (λ r. isBad (r .reading)) (readRows file))
+
+-- what is told of a row: its number, where it starts, where its line ends, where its value starts
+abbrev pub toldOf : Option Row → Found
+toldOf o = maybe o found.Nothing (λ r. found.Row (r .line) (r .start) (r .start + length (lineOf (r .bytes))) (r .start + valueStart (r .reading)))
+
+-- the line's key with its postfix is this one
+abbrev pub namedAs : List ℕ → List ℕ → Named → Bool
+namedAs key line (Name k n) = same key (take n line)
+namedAs key line (NoName n) = false

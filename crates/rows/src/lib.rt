@@ -1,0 +1,203 @@
+// The rows of a file: where a line ends, and which row has a name.
+use line::Line;
+use line::Named;
+ghost use mathlib.Core.Path.{_≡_};
+ghost use mathlib.Core.Bool.{true};
+ghost use Prim.Native.Nat.{_+_, _≤_};
+ghost use lib.ListN.{length, drop};
+ghost use Rattle.base.specs.Lists as lists;
+ghost use Rattle.line.specs.Name.{byteAt, readName};
+ghost use Rattle.line.specs.Line.{readLine};
+ghost use lib.Dec.{eqb};
+ghost use Rattle.rows.specs.Rows.{readRows};
+ghost use Rattle.rows.specs.Title as title;
+ghost use Rattle.rows.specs.Find.{lineLength, valueStart, noneBad, toldOf, namedAs};
+
+// A row of a file: its number, where it starts, where its line ends, where its value starts (an entry's; else the row's start).
+pub enum Found {
+    Row {
+        line: usize,
+        start: usize,
+        end: usize,
+        value: usize,
+    },
+    Nothing,
+}
+
+// Whether none of sixteen bytes is an LF. It may say no where there is none.
+fn clear(s: &[u8], i: usize) -> bool
+    requires { ⌜ i + 16 ≤ length (now s) ⌝ }
+    ensures { λ r. ⌜ (r ≡ true → lineLength (drop i (now (s .entry))) ≡ 16 + lineLength (drop (i + 16) (now (s .entry)))) ⌝ }
+{
+    let mut n: u8 = 0;
+    let mut j = 0;
+    while j < 16 {
+        if s[i + j] == b'\n' {
+            n = 1;
+            j += 1;
+        } else {
+            j += 1;
+        }
+    }
+    n == 0
+}
+
+// The end of a line, byte by byte.
+fn near_end(s: &[u8], from: usize) -> usize
+    ensures { λ r. ⌜ r ≡ from + lineLength (drop from (now (s .entry))) ⌝ }
+{
+    let mut i = from;
+    while i < s.len() {
+        if s[i] == b'\n' {
+            return i;
+        }
+        i += 1;
+    }
+    i
+}
+
+// Where the line that begins at a place ends: at its LF, or at the end. Sixteen bytes at a time where there are so many.
+pub fn line_end(s: &[u8], from: usize) -> usize
+    ensures { λ r. ⌜ r ≡ from + lineLength (drop from (now (s .entry))) ⌝ }
+{
+    let mut i = from;
+    while i < s.len() {
+        if s.len() - i < 16 {
+            return near_end(s, i);
+        }
+        if clear(s, i) {
+            i += 16;
+        } else {
+            return near_end(s, i);
+        }
+    }
+    i
+}
+
+// Byte for byte the same.
+pub fn same(a: &[u8], b: &[u8]) -> bool
+    ensures { λ r. ⌜ r ≡ lists.same (now (a .entry)) (now (b .entry)) ⌝ }
+{
+    let mut i: usize = 0;
+    while i < a.len() {
+        if b.len() <= i {
+            return false;
+        }
+        if a[i] != b[i] {
+            return false;
+        }
+        i += 1;
+    }
+    if i < b.len() {
+        return false;
+    }
+    true
+}
+
+// Whether a line's key with its postfix is this one. Most lines differ in their first byte.
+pub fn is_named(l: &[u8], key: &[u8]) -> bool
+    ensures { λ r. ⌜ r ≡ namedAs (now (key .entry)) (now (l .entry)) (readName (now (l .entry))) ⌝ }
+{
+    if l.len() < key.len() {
+        return false;
+    }
+    let n = key.len();
+    if same(key, &l[..n]) {
+        return match line::read_name(l) {
+            Named::Name { key: _, name } => name == n,
+            Named::NoName(_) => false,
+        };
+    }
+    false
+}
+
+// Where an entry's value starts in its line; 0 for another line.
+fn value_start(l: &[u8]) -> usize
+    ensures { λ r. ⌜ r ≡ valueStart (readLine (now (l .entry))) ⌝ }
+{
+    match line::read_line(l) {
+        Line::Entry {
+            key: _,
+            name: _,
+            value,
+        } => value,
+        Line::Blank => 0,
+        Line::Comment => 0,
+        Line::Header { end: _ } => 0,
+        Line::Bad(_) => 0,
+    }
+}
+
+// Whether a line that is not bad is a header.
+fn is_header(l: &[u8]) -> bool
+    ensures { λ r. ⌜ r ≡ eqb (byteAt (now (l .entry)) 0) 91 ⌝ }
+{
+    line::byte_at(l, 0) == b'['
+}
+
+// The first row of a key with its postfix in a group, in a file without bad lines.
+pub fn find_key(file: &[u8], group: &[u8], key: &[u8]) -> Found
+    requires { ⌜ noneBad (now file) ≡ true ⌝ }
+    ensures { λ r. ⌜ r ≡ toldOf (title.findRow (readRows (now (file .entry))) (title.Key (now (group .entry)) (now (key .entry)))) ⌝ }
+{
+    let mut p: usize = 0;
+    let mut n: usize = 1;
+    let mut inside = group.len() == 0;
+    while p < file.len() {
+        let e = line_end(file, p);
+        let l = &file[p..e];
+        if is_header(l) {
+            let t = l.len() - 1;
+            inside = same(group, &l[1..t]);
+            p = e + 1;
+            n += 1;
+        } else {
+            if inside {
+                if is_named(l, key) {
+                    return Found::Row {
+                        line: n,
+                        start: p,
+                        end: e,
+                        value: p + value_start(l),
+                    };
+                }
+                p = e + 1;
+                n += 1;
+            } else {
+                p = e + 1;
+                n += 1;
+            }
+        }
+    }
+    Found::Nothing
+}
+
+// The header of a group, in a file without bad lines.
+pub fn find_group(file: &[u8], group: &[u8]) -> Found
+    requires { ⌜ noneBad (now file) ≡ true ⌝ }
+    ensures { λ r. ⌜ r ≡ toldOf (title.findRow (readRows (now (file .entry))) (title.Group (now (group .entry)))) ⌝ }
+{
+    let mut p: usize = 0;
+    let mut n: usize = 1;
+    while p < file.len() {
+        let e = line_end(file, p);
+        let l = &file[p..e];
+        if is_header(l) {
+            let t = l.len() - 1;
+            if same(group, &l[1..t]) {
+                return Found::Row {
+                    line: n,
+                    start: p,
+                    end: e,
+                    value: p,
+                };
+            }
+            p = e + 1;
+            n += 1;
+        } else {
+            p = e + 1;
+            n += 1;
+        }
+    }
+    Found::Nothing
+}

@@ -1,0 +1,5 @@
+pub mod Lists
+pub mod Accepts
+pub mod Known
+pub mod Checking
+pub mod Plain
