@@ -1,0 +1,13 @@
+-- `kveldrim_write_text` meets its contract: it is the call. Assumes nothing.
+use borrow.Author.Needs.{needs}
+use Rattle.kveldrim.proofs.kveldrim_write_text.Statement.{statement}
+use Rattle.kveldrim.proofs.kveldrim_write_text.Tie as tie
+
+pub kveldrim-write-text-spec : {M : Type 1} → statement M
+kveldrim-write-text-spec =
+    tie.close
+    (tie.spec
+    (λ c κs. search needs)
+    (λ c κs. search needs)
+    (λ c. search needs)
+    (λ c. let r = c .before .before .before .before .before in (rw (← r .write-text .ensures .0) (c .tell-written .ensures), r .write-text .ensures .1)))

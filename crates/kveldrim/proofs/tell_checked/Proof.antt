@@ -1,0 +1,14 @@
+-- `tell_checked` meets its contract: a refusal is told by its number and place. Assumes nothing.
+use borrow.Author.Needs.{needs}
+use Rattle.kveldrim.proofs.tell_checked.Statement.{statement}
+use Rattle.kveldrim.proofs.tell_checked.Tie as tie
+
+pub tell-checked-spec : {M : Type 1} → statement M
+tell-checked-spec =
+    tie.close
+    (tie.spec
+    (λ c. search needs)
+    (λ c. search needs)
+    (λ c κs. search needs)
+    (λ c. search needs)
+    (λ c. rw (c .before .before .before .c .given .1) (c .refuse .ensures)))

@@ -1,0 +1,101 @@
+// The C interface: one exported function for each public call. include/kveldrim.h documents it.
+use fault::Fault;
+use text::Written;
+use wellformed::Checked;
+ghost use mathlib.Core.Path.{_≡_};
+ghost use Prim.Native.Nat.{ℕ};
+ghost use Rattle.text.specs.Escape.{readText, writeText};
+ghost use Rattle.text.specs.Element.{readElements};
+ghost use Rattle.text.specs.Output.{answered, told, held};
+ghost use Rattle.wellformed.specs.Check as check;
+ghost use Rattle.wellformed.specs.Pass as pass;
+ghost use Rattle.kveldrim.specs.Abi.{codeOf, placeIn, writtenIn};
+ghost use Rattle.fault.specs.Table.{numberOf, placeOf};
+
+// A refusal, as it is told.
+fn refuse(f: Fault, place: &mut u64) -> u32
+    ensures { λ r. ⌜ (r ≡ numberOf f) × (now (place .exit) ≡ placeOf f) ⌝ }
+{
+    *place = fault::place(f) as u64;
+    fault::number(f)
+}
+
+// The answer of a call with an output.
+fn tell_written(w: Written, place: &mut u64, written: &mut u64) -> u32
+    ensures { λ r. ⌜ (r ≡ codeOf (answered w)) × (now (place .exit) ≡ placeIn (answered w))
+        × (now (written .exit) ≡ writtenIn (λ n. n) (answered w) (now (written .entry))) ⌝ }
+{
+    match w {
+        Written::Bytes(n) => {
+            *place = 0;
+            *written = n as u64;
+            0
+        }
+        Written::Refused(f) => refuse(f, place),
+    }
+}
+
+// The answer of the check.
+fn tell_checked(c: Checked, place: &mut u64) -> u32
+    ensures { λ r. ⌜ (r ≡ codeOf (pass.answered c)) × (now (place .exit) ≡ placeIn (pass.answered c)) ⌝ }
+{
+    match c {
+        Checked::Sound => {
+            *place = 0;
+            0
+        }
+        Checked::Refused(f) => refuse(f, place),
+    }
+}
+
+#[no_mangle]
+pub extern "C" fn kveldrim_check(file: &[u8], place: &mut u64) -> u32
+    ensures { λ r. ⌜ (r ≡ codeOf (check.check (now (file .entry)))) × (now (place .exit) ≡ placeIn (check.check (now (file .entry)))) ⌝ }
+{
+    tell_checked(wellformed::check(file), place)
+}
+
+#[no_mangle]
+pub extern "C" fn kveldrim_read_text(
+    raw: &[u8],
+    out: &mut [u8],
+    place: &mut u64,
+    written: &mut u64,
+) -> u32
+    ensures told { λ r. ⌜ (r ≡ codeOf (told (readText (now (raw .entry))) (now (out .entry))))
+        × (now (place .exit) ≡ placeIn (told (readText (now (raw .entry))) (now (out .entry))))
+        × (now (written .exit) ≡ writtenIn (λ n. n) (told (readText (now (raw .entry))) (now (out .entry))) (now (written .entry))) ⌝ }
+    ensures output { λ _. ⌜ now (out .exit) ≡ held (readText (now (raw .entry))) (now (out .entry)) ⌝ }
+{
+    tell_written(text::read_text(raw, out), place, written)
+}
+
+#[no_mangle]
+pub extern "C" fn kveldrim_write_text(
+    text: &[u8],
+    out: &mut [u8],
+    place: &mut u64,
+    written: &mut u64,
+) -> u32
+    ensures told { λ r. ⌜ (r ≡ codeOf (told (writeText (now (text .entry))) (now (out .entry))))
+        × (now (place .exit) ≡ placeIn (told (writeText (now (text .entry))) (now (out .entry))))
+        × (now (written .exit) ≡ writtenIn (λ n. n) (told (writeText (now (text .entry))) (now (out .entry))) (now (written .entry))) ⌝ }
+    ensures output { λ _. ⌜ now (out .exit) ≡ held (writeText (now (text .entry))) (now (out .entry)) ⌝ }
+{
+    tell_written(text::write_text(text, out), place, written)
+}
+
+#[no_mangle]
+pub extern "C" fn kveldrim_read_list(
+    raw: &[u8],
+    out: &mut [u8],
+    place: &mut u64,
+    written: &mut u64,
+) -> u32
+    ensures told { λ r. ⌜ (r ≡ codeOf (told (readElements (now (raw .entry))) (now (out .entry))))
+        × (now (place .exit) ≡ placeIn (told (readElements (now (raw .entry))) (now (out .entry))))
+        × (now (written .exit) ≡ writtenIn (λ n. n) (told (readElements (now (raw .entry))) (now (out .entry))) (now (written .entry))) ⌝ }
+    ensures output { λ _. ⌜ now (out .exit) ≡ held (readElements (now (raw .entry))) (now (out .entry)) ⌝ }
+{
+    tell_written(text::read_list(raw, out), place, written)
+}
