@@ -1,11 +1,12 @@
 -- The check accepts exactly the well-formed files. Assumes nothing.
 use mathlib.Core.Path.{_≡_, refl, sym, ap, ap₂, _∙_}
-use Prim.Native.Nat.{ℕ}
+use Prim.Native.Nat.{ℕ, _≤_}
 use mathlib.Core.Bool.{Bool, true, false, not, _&&_, _||_, and-false, and-true}
 use mathlib.Core.Option.{Option, none, some}
 use mathlib.Core.List.{List, [], _∷_}
 use lib.ListN.{length, take}
 use lib.Dec.{leb}
+use borrow.Author.Tests.{leb-true}
 use Rattle.base.specs.Choice.{pick, maybe, there}
 use Rattle.base.specs.Lists.{same, any, all, first}
 use Rattle.fault.specs.declared.Fault.{Fault}
@@ -179,3 +180,13 @@ titled-good leading file e =
     by none true false l d e w = refl
     by none false b l d e w = no (cc)
     by (some f) g b l d e w = no (cc)
+
+-- an accepted file is not too long, and none of its rows is bad
+pub check-good : (leading file : List ℕ) → given tt ≡ checkAs leading file → (noneBad file ≡ true) × (length file ≤ 32768)
+check-good leading file e = by (leb (length file) 32768) (titledAs leading (readRows file)) refl refl (e ∙ check-rows leading file)
+  where
+    by : (t : Bool) (a : Answer (Unit {0})) → leb (length file) 32768 ≡ t → titledAs leading (readRows file) ≡ a
+        → given tt ≡ (need t TooLong >>= λ _. (a >>= λ _. plainAll (readRows file))) → (noneBad file ≡ true) × (length file ≤ 32768)
+    by true (given tt) l q e = (titled-good leading file (sym q), leb-true (length file) 32768 l)
+    by true (refused f) l q e = no (cc)
+    by false a l q e = no (cc)

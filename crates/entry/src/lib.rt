@@ -1,0 +1,59 @@
+// The calls that read an entry: lookup, and the choice of language.
+use fault::Fault;
+use rows::Found;
+use wellformed::Checked;
+ghost use mathlib.Core.Path.{_≡_};
+ghost use Rattle.base.specs.Lists.{part};
+ghost use Rattle.entry.specs.Lookup as spec;
+
+// The two ends of a value in the file, the end exclusive, or the refusal.
+pub enum Ends {
+    At { from: usize, to: usize },
+    Refused(Fault),
+}
+
+// The ends of a row's value.
+fn ends_of(f: Found) -> Ends
+    ensures { λ r. ⌜ r ≡ spec.endsOf f ⌝ }
+{
+    match f {
+        Found::Row {
+            line: _,
+            start: _,
+            end,
+            value,
+        } => Ends::At {
+            from: value,
+            to: end,
+        },
+        Found::Nothing => Ends::Refused(Fault::Missing),
+    }
+}
+
+// The raw value of a key with its postfix, by its two ends: 1 to 6, 7, 8.
+pub fn lookup_ends(file: &[u8], group: &[u8], key: &[u8]) -> Ends
+    ensures { λ r. ⌜ spec.answered r ≡ spec.lookup (now (file .entry)) (now (group .entry)) (now (key .entry)) ⌝ }
+{
+    match wellformed::check(file) {
+        Checked::Refused(f) => Ends::Refused(f),
+        Checked::Sound => {
+            if line::form::is_group(group) {
+                if line::form::is_key(key) {
+                    return ends_of(rows::find_key(file, group, key));
+                }
+                return Ends::Refused(Fault::BadArgument);
+            }
+            Ends::Refused(Fault::BadArgument)
+        }
+    }
+}
+
+// The raw value as a part of the file; empty when refused.
+pub fn lookup<'a, 'b>(file: &'a [u8], group: &'b [u8], key: &'b [u8]) -> &'a [u8]
+    ensures { λ r. ⌜ now r ≡ spec.partOf (now (file .entry)) (spec.lookup (now (file .entry)) (now (group .entry)) (now (key .entry))) ⌝ }
+{
+    let Ends::At { from, to } = lookup_ends(file, group, key) else {
+        return &file[..0];
+    };
+    &file[from..to]
+}
