@@ -1,11 +1,12 @@
 -- How far the bytes of a class reach at the front of a list. Assumes nothing.
 use mathlib.Core.Path.{_≡_, refl, sym, ap, _∙_}
 use Prim.Native.Nat.{ℕ, zero, suc, _+_, _≤_, _<_}
+use native.Mathlib.Numerals.{add-one}
 use native.Mathlib.Omega.{arith}
 use mathlib.Core.Bool.{Bool, true, false, _&&_}
 use mathlib.Core.List.{List, [], _∷_, _++_}
-use lib.ListN.{length, take, drop, length-drop}
-use lib.Seq.{drop-append-le}
+use lib.ListN.{length, take, drop, getD, length-drop}
+use lib.Seq.{drop-append-le, take-suc, getD-drop}
 use lib.Dec.{eqb, eqb·zero-suc, eqb·suc-suc}
 use Rattle.base.specs.Choice.{pick}
 use Rattle.base.specs.Lists.{span, all}
@@ -93,3 +94,31 @@ span-take p (suc n) (b ∷ s) h = go (p b) h (span-take p n s)
     go : (t : Bool) → pick t (suc (span p s)) 0 ≤ suc n → (span p s ≤ n → span p (take n s) ≡ span p s) → pick t (suc (span p (take n s))) 0 ≡ pick t (suc (span p s)) 0
     go true h f = ap suc (f (omega arith))
     go false h f = refl
+
+-- ---- by so many bytes at a time
+
+all-more : (p : ℕ → Bool) (s : List ℕ) (x : ℕ) → all p (s ++ (x ∷ [])) ≡ (all p s && p x)
+unfolding all
+all-more p [] x = go (p x)
+  where
+    go : (t : Bool) → (t && true) ≡ t
+    go true = refl
+    go false = refl
+all-more p (b ∷ s) x = go (p b) (all-more p s x)
+  where
+    go : (t : Bool) → all p (s ++ (x ∷ [])) ≡ (all p s && p x) → (t && all p (s ++ (x ∷ []))) ≡ ((t && all p s) && p x)
+    go true e = e
+    go false e = refl
+
+-- one byte more of those from a place on
+pub all-next : (p : ℕ → Bool) (s : List ℕ) (i j : ℕ) → i + j < length s → all p (take (j + 1) (drop i s)) ≡ (all p (take j (drop i s)) && p (getD s (i + j) 0))
+all-next p s i j h = rw (add-one j, take-suc (drop i s) j 0 (simp length-drop (omega arith)), getD-drop) (all-more p (take j (drop i s)) (getD s (i + j) 0))
+
+-- where the first n bytes are all of the class, the span goes on behind them
+pub span-skip : (p : ℕ → Bool) (n : ℕ) (s : List ℕ) → n ≤ length s → all p (take n s) ≡ true → span p s ≡ n + span p (drop n s)
+unfolding span all
+span-skip p zero s h e = omega arith
+span-skip p (suc n) [] h e = absurd (omega arith)
+span-skip p (suc n) (b ∷ s) h e =
+    let q = and-both (p b) (all p (take n s)) e in
+    rw (q .0) (omega (arith, span-skip p n s (omega arith) (q .1)))

@@ -1,10 +1,14 @@
-// The calls that read an entry: lookup, and the choice of language.
+// The calls that read an entry: lookup, the choice of language, and completeness.
+use complete::Completed;
 use fault::Fault;
 use rows::Found;
 use wellformed::Checked;
 ghost use mathlib.Core.Path.{_≡_};
 ghost use Rattle.base.specs.Lists.{part};
 ghost use Rattle.entry.specs.Lookup as spec;
+ghost use Rattle.entry.specs.Choose as choice;
+ghost use Rattle.entry.specs.Complete as whole;
+ghost use Rattle.wellformed.specs.Pass as pass;
 
 // The two ends of a value in the file, the end exclusive, or the refusal.
 pub enum Ends {
@@ -56,4 +60,48 @@ pub fn lookup<'a, 'b>(file: &'a [u8], group: &'b [u8], key: &'b [u8]) -> &'a [u8
         return &file[..0];
     };
     &file[from..to]
+}
+
+// The raw value of a plain key that a locale takes, by its two ends: 1 to 6, 7, 8.
+pub fn choose_ends(file: &[u8], group: &[u8], key: &[u8], locale: &[u8]) -> Ends
+    ensures { λ r. ⌜ spec.answered r ≡ choice.choose (now (file .entry)) (now (group .entry)) (now (key .entry)) (now (locale .entry)) ⌝ }
+{
+    match wellformed::check(file) {
+        Checked::Refused(f) => Ends::Refused(f),
+        Checked::Sound => {
+            if line::form::is_group(group) {
+                if line::form::is_plain(key) {
+                    if line::form::is_locale(locale) {
+                        return ends_of(choice::choose_row(file, group, key, locale));
+                    }
+                    return Ends::Refused(Fault::BadArgument);
+                }
+                return Ends::Refused(Fault::BadArgument);
+            }
+            Ends::Refused(Fault::BadArgument)
+        }
+    }
+}
+
+// The chosen raw value as a part of the file; empty when refused.
+pub fn choose<'a, 'b>(file: &'a [u8], group: &'b [u8], key: &'b [u8], locale: &'b [u8]) -> &'a [u8]
+    ensures { λ r. ⌜ now r ≡ spec.partOf (now (file .entry)) (choice.choose (now (file .entry)) (now (group .entry)) (now (key .entry)) (now (locale .entry))) ⌝ }
+{
+    let Ends::At { from, to } = choose_ends(file, group, key, locale) else {
+        return &file[..0];
+    };
+    &file[from..to]
+}
+
+// Well formed and complete, or the fault: 1 to 6, 18.
+pub fn is_complete(file: &[u8]) -> Checked
+    ensures { λ r. ⌜ pass.answered r ≡ whole.complete (now (file .entry)) ⌝ }
+{
+    match wellformed::check(file) {
+        Checked::Refused(f) => Checked::Refused(f),
+        Checked::Sound => match complete::complete_rows(file) {
+            Completed::Complete => Checked::Sound,
+            Completed::Refused(f) => Checked::Refused(f),
+        },
+    }
 }

@@ -1,4 +1,5 @@
 // The C interface: one exported function for each public call. include/kveldrim.h documents it.
+use entry::Ends;
 use fault::Fault;
 use text::Written;
 use wellformed::Checked;
@@ -7,6 +8,9 @@ ghost use Prim.Native.Nat.{ℕ};
 ghost use Rattle.text.specs.Escape.{readText, writeText};
 ghost use Rattle.text.specs.Element.{readElements};
 ghost use Rattle.text.specs.Output.{answered, told, held};
+ghost use Rattle.entry.specs.Lookup as lookup;
+ghost use Rattle.entry.specs.Choose.{choose};
+ghost use Rattle.entry.specs.Complete.{complete};
 ghost use Rattle.wellformed.specs.Check as check;
 ghost use Rattle.wellformed.specs.Pass as pass;
 ghost use Rattle.kveldrim.specs.Abi.{codeOf, placeIn, writtenIn};
@@ -53,6 +57,70 @@ pub extern "C" fn kveldrim_check(file: &[u8], place: &mut u64) -> u32
     ensures { λ r. ⌜ (r ≡ codeOf (check.check (now (file .entry)))) × (now (place .exit) ≡ placeIn (check.check (now (file .entry)))) ⌝ }
 {
     tell_checked(wellformed::check(file), place)
+}
+
+#[no_mangle]
+pub extern "C" fn kveldrim_complete(file: &[u8], place: &mut u64) -> u32
+    ensures { λ r. ⌜ (r ≡ codeOf (complete (now (file .entry)))) × (now (place .exit) ≡ placeIn (complete (now (file .entry)))) ⌝ }
+{
+    tell_checked(entry::is_complete(file), place)
+}
+
+// The answer of a call that finds a value.
+fn tell_ends(e: Ends, place: &mut u64, from: &mut u64, to: &mut u64) -> u32
+    ensures { λ r. ⌜ (r ≡ codeOf (lookup.answered e)) × (now (place .exit) ≡ placeIn (lookup.answered e))
+        × (now (from .exit) ≡ writtenIn (λ x. x .from) (lookup.answered e) (now (from .entry)))
+        × (now (to .exit) ≡ writtenIn (λ x. x .to) (lookup.answered e) (now (to .entry))) ⌝ }
+{
+    match e {
+        Ends::At { from: a, to: b } => {
+            *place = 0;
+            *from = a as u64;
+            *to = b as u64;
+            0
+        }
+        Ends::Refused(f) => refuse(f, place),
+    }
+}
+
+#[no_mangle]
+pub extern "C" fn kveldrim_lookup(
+    file: &[u8],
+    group: &[u8],
+    key: &[u8],
+    place: &mut u64,
+    from: &mut u64,
+    to: &mut u64,
+) -> u32
+    ensures { λ r. ⌜ (r ≡ codeOf (lookup.lookup (now (file .entry)) (now (group .entry)) (now (key .entry))))
+        × (now (place .exit) ≡ placeIn (lookup.lookup (now (file .entry)) (now (group .entry)) (now (key .entry))))
+        × (now (from .exit) ≡ writtenIn (λ x. x .from) (lookup.lookup (now (file .entry)) (now (group .entry)) (now (key .entry))) (now (from .entry)))
+        × (now (to .exit) ≡ writtenIn (λ x. x .to) (lookup.lookup (now (file .entry)) (now (group .entry)) (now (key .entry))) (now (to .entry))) ⌝ }
+{
+    tell_ends(entry::lookup_ends(file, group, key), place, from, to)
+}
+
+#[no_mangle]
+pub extern "C" fn kveldrim_choose(
+    file: &[u8],
+    group: &[u8],
+    key: &[u8],
+    locale: &[u8],
+    place: &mut u64,
+    from: &mut u64,
+    to: &mut u64,
+) -> u32
+    ensures { λ r. ⌜ (r ≡ codeOf (choose (now (file .entry)) (now (group .entry)) (now (key .entry)) (now (locale .entry))))
+        × (now (place .exit) ≡ placeIn (choose (now (file .entry)) (now (group .entry)) (now (key .entry)) (now (locale .entry))))
+        × (now (from .exit) ≡ writtenIn (λ x. x .from) (choose (now (file .entry)) (now (group .entry)) (now (key .entry)) (now (locale .entry))) (now (from .entry)))
+        × (now (to .exit) ≡ writtenIn (λ x. x .to) (choose (now (file .entry)) (now (group .entry)) (now (key .entry)) (now (locale .entry))) (now (to .entry))) ⌝ }
+{
+    tell_ends(
+        entry::choose_ends(file, group, key, locale),
+        place,
+        from,
+        to,
+    )
 }
 
 #[no_mangle]

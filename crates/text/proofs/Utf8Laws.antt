@@ -1,15 +1,24 @@
 -- A scan of UTF-8 in progress: what is found from a place on, counted from the start. Assumes nothing.
-use mathlib.Core.Path.{_≡_, refl, ap}
+use mathlib.Core.Path.{_≡_, refl, sym, ap, _∙_}
 use Prim.Native.Nat.{ℕ, zero, suc, _+_, _-_, _≤_, _<_}
 use native.Mathlib.Omega.{arith}
-use mathlib.Core.Bool.{Bool}
+use mathlib.Core.Bool.{Bool, true, false}
 use mathlib.Core.Option.{Option, none, some, Option·map}
 use mathlib.Core.List.{List, [], _∷_}
 use lib.ListN.{length, take, drop, getD, length-drop}
-use Rattle.base.specs.Choice.{maybe}
+use lib.Dec.{leb}
+use borrow.Author.Tests.{leb-true, lt-ltb}
+use Rattle.base.specs.Choice.{pick, maybe}
+use Rattle.base.specs.Lists.{span}
 use Rattle.base.proofs.Scan.{here, done}
 use Rattle.base.proofs.Tail.{tail-lent}
+use Rattle.base.proofs.Span.{span-le}
+use Rattle.base.proofs.Tests.{and-both}
+use Rattle.text.specs.Class.{valueByte, textByte, member}
+use Rattle.text.specs.declared.Class.{Class}
+use Rattle.text.specs.declared.Class.the-variants as class
 use Rattle.text.specs.Utf8.{tails, step, textFault}
+use Rattle.text.specs.Step.{skipOf}
 use Rattle.text.specs.declared.Due.{Due}
 use Rattle.text.specs.declared.Due.the-variants.{Start, Tail}
 
@@ -78,3 +87,48 @@ fault-within plain due (b ∷ bs) = rw (fault-cons plain due b bs) (go (step pla
 -- the same of a tail that was lent
 pub fault-lent : (plain : ℕ → Bool) (s : List ℕ) (from : ℕ) → FaultWithin (length s - from) (textFault plain Start (take (length s - from) (drop from s)))
 fault-lent plain s from = rw (tail-lent from s, ← length-drop from s) (fault-within plain Start (drop from s))
+
+-- ---- ASCII bytes at the front that are passed at once
+
+-- an ASCII byte that may stand is a character
+step-plain : (plain : ℕ → Bool) (b : ℕ) → valueByte b ≡ true → plain b ≡ true → step plain Start b ≡ some Start
+unfolding step valueByte
+step-plain plain b v p =
+    let w = and-both (leb 32 b) (leb b 126) v in
+    let l = leb-true b 126 (w .1) in
+    rw (lt-ltb b 128 (omega arith), p)
+
+moved-more : (n : ℕ) (o : Option ℕ) → moved (suc n) o ≡ Option·map suc (moved n o)
+moved-more n none = refl
+moved-more n (some m) = ap some (omega arith)
+
+fault-skip : (plain : ℕ → Bool) → ((b : ℕ) → valueByte b ≡ true → plain b ≡ true) → (s : List ℕ)
+    → moved (span valueByte s) (textFault plain Start (drop (span valueByte s) s)) ≡ textFault plain Start s
+unfolding span
+fault-skip plain h [] = moved-start (textFault plain Start [])
+fault-skip plain h (b ∷ s) = go (valueByte b) refl (fault-skip plain h s)
+  where
+    go : (t : Bool) → valueByte b ≡ t → moved (span valueByte s) (textFault plain Start (drop (span valueByte s) s)) ≡ textFault plain Start s
+        → moved (pick t (suc (span valueByte s)) 0) (textFault plain Start (drop (pick t (suc (span valueByte s)) 0) (b ∷ s))) ≡ textFault plain Start (b ∷ s)
+    go true v ih =
+        moved-more (span valueByte s) (textFault plain Start (drop (span valueByte s) s)) ∙ ap (Option·map suc) ih
+        ∙ sym (fault-cons plain Start b s ∙ ap (λ (o : Option Due). maybe o (some 0) (λ next. Option·map suc (textFault plain next s))) (step-plain plain b v (h b v)))
+    go false v ih = moved-start (textFault plain Start (b ∷ s))
+
+-- whatever the class
+pub skip-fault : (k : Class) (s : List ℕ) → moved (skipOf k s) (textFault (member k) Start (drop (skipOf k s) s)) ≡ textFault (member k) Start s
+unfolding textByte
+skip-fault class.Key s = moved-start (textFault (member class.Key) Start s)
+skip-fault class.Group s = moved-start (textFault (member class.Group) Start s)
+skip-fault class.Space s = moved-start (textFault (member class.Space) Start s)
+skip-fault class.Blank s = moved-start (textFault (member class.Blank) Start s)
+skip-fault class.Value s = fault-skip (member class.Value) (λ b v. v) s
+skip-fault class.Text s = fault-skip (member class.Text) (λ b v. rw v) s
+
+pub skip-le : (k : Class) (s : List ℕ) → skipOf k s ≤ length s
+skip-le class.Key s = omega arith
+skip-le class.Group s = omega arith
+skip-le class.Space s = omega arith
+skip-le class.Blank s = omega arith
+skip-le class.Value s = span-le valueByte s
+skip-le class.Text s = span-le valueByte s

@@ -7,9 +7,13 @@ use mathlib.Core.List.{List, [], _∷_}
 use lib.ListN.{length}
 use lib.Dec.{eqb, ltb, leb}
 use Rattle.base.specs.Choice.{pick, maybe}
+use Rattle.base.specs.Lists.{span}
 use Rattle.fault.specs.declared.Fault.the-variants.{BadEscape}
 use Rattle.fault.specs.Answer.{Answer, given, refused}
 use Rattle.record.specs.Record.{headLength}
+use Rattle.text.specs.Class.{valueByte}
+use Rattle.text.specs.declared.Class.{Class}
+use Rattle.text.specs.declared.Class.the-variants as class
 use Rattle.text.specs.Escape.{escape}
 use Rattle.text.specs.declared.Due.{Due}
 use Rattle.text.specs.declared.Next.{Next}
@@ -35,6 +39,15 @@ dueOf next.Stop = none
 abbrev pub faultOf : Scan → Option ℕ
 faultOf scan.Sound = none
 faultOf (scan.Fault n) = some n
+
+-- how many ASCII bytes at the front of a text of a class are passed at once
+abbrev pub skipOf : Class → List ℕ → ℕ
+skipOf class.Key s = 0
+skipOf class.Group s = 0
+skipOf class.Space s = 0
+skipOf class.Blank s = 0
+skipOf class.Value s = span valueByte s
+skipOf class.Text s = span valueByte s
 
 -- the byte that an escape stands for, with the two raw bytes it takes
 abbrev pub pairOf : Option ℕ → Piece

@@ -1,9 +1,9 @@
 // Classes of bytes, by comparisons: one test and one return for each range.
 use crate::Class;
 ghost use mathlib.Core.Path.{_≡_};
-ghost use Prim.Native.Nat.{_+_};
-ghost use lib.ListN.{drop};
-ghost use Rattle.base.specs.Lists.{span};
+ghost use Prim.Native.Nat.{_+_, _≤_};
+ghost use lib.ListN.{length, take, drop};
+ghost use Rattle.base.specs.Lists.{all, span};
 ghost use Rattle.text.specs.Class as spec;
 
 // From low to high, both included.
@@ -97,6 +97,48 @@ pub fn span_end(s: &[u8], from: usize, k: Class) -> usize
             i += 1;
         } else {
             return i;
+        }
+    }
+    i
+}
+
+// Whether sixteen bytes are all from 0x20 to 0x7E. The loop has no way out, so that it becomes one comparison of sixteen bytes.
+fn plain_16(s: &[u8], i: usize) -> bool
+    requires { ⌜ i + 16 ≤ length (now s) ⌝ }
+    ensures { λ r. ⌜ r ≡ all spec.valueByte (take 16 (drop i (now (s .entry)))) ⌝ }
+{
+    let mut n: u8 = 0;
+    let mut j: usize = 0;
+    while j < 16 {
+        let b = s[i + j];
+        if b < 0x20 {
+            n = 1;
+            j += 1;
+        } else {
+            if 0x7e < b {
+                n = 1;
+                j += 1;
+            } else {
+                j += 1;
+            }
+        }
+    }
+    n == 0
+}
+
+// Past the bytes from 0x20 to 0x7E that stand from a place on, sixteen at a time where there are so many.
+pub fn plain_end(s: &[u8], from: usize) -> usize
+    ensures { λ r. ⌜ r ≡ from + span spec.valueByte (drop from (now (s .entry))) ⌝ }
+{
+    let mut i = from;
+    while i < s.len() {
+        if s.len() - i < 16 {
+            return span_end(s, i, Class::Value);
+        }
+        if plain_16(s, i) {
+            i += 16;
+        } else {
+            return span_end(s, i, Class::Value);
         }
     }
     i

@@ -7,7 +7,7 @@ use crate::classes;
 ghost use mathlib.Core.Path.{_≡_};
 ghost use Rattle.text.specs.Class.{member};
 ghost use Rattle.text.specs.Utf8 as spec;
-ghost use Rattle.text.specs.Step.{dueOf, faultOf};
+ghost use Rattle.text.specs.Step.{dueOf, faultOf, skipOf};
 
 // A character that was begun.
 fn tail(more: u8, low: u8, high: u8) -> Next
@@ -81,12 +81,26 @@ pub fn step(k: Class, due: Due, b: u8) -> Next
     }
 }
 
+// How many ASCII bytes at the front are surely text: a fast way through the most frequent bytes.
+fn skip(s: &[u8], k: Class) -> usize
+    ensures { λ r. ⌜ r ≡ skipOf k (now (s .entry)) ⌝ }
+{
+    match k {
+        Class::Value => classes::plain_end(s, 0),
+        Class::Text => classes::plain_end(s, 0),
+        Class::Key => 0,
+        Class::Group => 0,
+        Class::Space => 0,
+        Class::Blank => 0,
+    }
+}
+
 // The first byte after which no ending makes a text, or the length where the text is only unfinished.
 pub fn scan(s: &[u8], k: Class) -> Scan
     ensures { λ r. ⌜ faultOf r ≡ spec.textFault (member k) Due.Start (now (s .entry)) ⌝ }
 {
     let mut due = Due::Start;
-    let mut i: usize = 0;
+    let mut i = skip(s, k);
     while i < s.len() {
         match step(k, due, s[i]) {
             Next::Is(next) => {

@@ -80,6 +80,15 @@ module _ (file : List ℕ) where
       other-asks : wanted (readRows file) (plainTitle (titleOf (groupAfter group (part p e file) l) (part p e file) l)) ≡ false → noPlain (readRows file) (rowAt file n p e group) ≡ false
       other-asks y = asks ∙ rw (← x) y
 
+  -- the key that was read or found last is this row's plain key
+  last-is : {p e : ℕ} (group last : List ℕ) (h : p < length file) (q : e ≡ p + lineLength (drop p file)) {key name value : ℕ} → Entry key name value ≡ readLine (part p e file)
+      → (0 < length last → has (readRows file) (Key group last) ≡ true) → true ≡ same last (take key (part p e file)) → has (readRows file) (Key group (take key (part p e file))) ≡ true
+  last-is {p} {e} group last h q {key} x k y =
+      let i : last ≡ take key (part p e file) = same-true last (take key (part p e file)) (sym y) in
+      let b = rw (← x) at (line-within (part p e file)) in
+      let l : length (take key (part p e file)) ≡ key = length-take-le key (part p e file) (omega arith) in
+      rw i at (k (rw i (omega (arith, l, b .0))))
+
   -- ---- the first pass: doubt says that a postfixed key did not follow its plain key
 
   pub record Plain (p : ℕ) (group last : List ℕ) (doubt : Bool) : Type 0 where
@@ -115,10 +124,7 @@ module _ (file : List ℕ) where
 
       pub plain-last : true ≡ same last (take key (part p e file)) → Plain (e + 1) group last doubt
       plain-last y =
-          let i : last ≡ take key (part p e file) = same-true last (take key (part p e file)) (sym y) in
-          let b = rw (← x) at (line-within (part p e file)) in
-          let l : length (take key (part p e file)) ≡ key = length-take-le key (part p e file) (omega arith) in
-          let z : has (readRows file) (Key group (take key (part p e file))) ≡ true = rw i at (k .known (rw i (omega (arith, l, b .0)))) in
+          let z = last-is group last h q x (k .known) y in
           record { known = k .known; settled = more (entry-asks w h q x ∙ rw z) }
 
       pub plain-doubt : Plain (e + 1) group last true
@@ -126,45 +132,55 @@ module _ (file : List ℕ) where
 
   -- ---- the second pass
 
-  pub record Asking (p n : ℕ) (group : List ℕ) : Type 0 where
+  pub record Asking (p n : ℕ) (group last : List ℕ) : Type 0 where
     pub prefix : Prefix file p n group
+    pub last-there : 0 < length last → has (readRows file) (Key group last) ≡ true
     pub goes : told (first (noPlain (readRows file)) (rowsFrom n p group (rows (drop p file)))) ≡ plainAll (readRows file)
 
-  pub asking-start : Asking 0 1 []
+  pub asking-start : Asking 0 1 [] []
   unfolding plainAll readRows
-  asking-start = record { prefix = prefix-start file; goes = refl }
+  asking-start = record { prefix = prefix-start file; last-there = λ h. absurd (omega arith); goes = refl }
 
-  module _ {p n : ℕ} {group : List ℕ} (a : Asking p n group) where
+  module _ {p n : ℕ} {group last : List ℕ} (a : Asking p n group last) where
     pub asking-end : length file ≤ p → given tt ≡ plainAll (readRows file)
     unfolding rowsFrom first
     asking-end h = rw (no-row file p h) at (a .goes)
 
     module _ {e : ℕ} (h : p < length file) (q : e ≡ p + lineLength (drop p file)) where
-      onward : noPlain (readRows file) (rowAt file n p e group) ≡ false → Asking (e + 1) (n + 1) (groupNext file p e group)
+      onward : {last′ : List ℕ} (l : Line) → l ≡ readLine (part p e file) → noPlain (readRows file) (rowAt file n p e group) ≡ false
+          → (0 < length last′ → has (readRows file) (Key (groupAfter group (part p e file) l) last′) ≡ true)
+          → Asking (e + 1) (n + 1) (groupAfter group (part p e file) l) last′
       unfolding first
-      onward y = record { prefix = prefix-next (a .prefix) h q; goes = rw (row-step file h q n group, y) at (a .goes) }
+      onward l x y k =
+          rw x
+          (record { prefix = prefix-next (a .prefix) h q; last-there = rw x at k; goes = rw (row-step file h q n group, y) at (a .goes) })
 
-      pub asking-blank : Blank ≡ readLine (part p e file) → Asking (e + 1) (n + 1) group
-      asking-blank x = rw (← x) at (onward (other-asks (a .prefix) h q Blank x refl))
+      pub asking-blank : Blank ≡ readLine (part p e file) → Asking (e + 1) (n + 1) group last
+      asking-blank x = onward Blank x (other-asks (a .prefix) h q Blank x refl) (a .last-there)
 
-      pub asking-comment : Comment ≡ readLine (part p e file) → Asking (e + 1) (n + 1) group
-      asking-comment x = rw (← x) at (onward (other-asks (a .prefix) h q Comment x refl))
+      pub asking-comment : Comment ≡ readLine (part p e file) → Asking (e + 1) (n + 1) group last
+      asking-comment x = onward Comment x (other-asks (a .prefix) h q Comment x refl) (a .last-there)
 
-      pub asking-bad : {b : ℕ} → Bad b ≡ readLine (part p e file) → Asking (e + 1) (n + 1) group
-      asking-bad {b} x = rw (← x) at (onward (other-asks (a .prefix) h q (Bad b) x refl))
+      pub asking-bad : {b : ℕ} → Bad b ≡ readLine (part p e file) → Asking (e + 1) (n + 1) group last
+      asking-bad {b} x = onward (Bad b) x (other-asks (a .prefix) h q (Bad b) x refl) (a .last-there)
 
-      pub asking-header : {end : ℕ} → Header end ≡ readLine (part p e file) → Asking (e + 1) (n + 1) (part 1 end (part p e file))
-      asking-header {end} x = rw (← x) at (onward (other-asks (a .prefix) h q (Header end) x refl))
+      pub asking-header : {end : ℕ} → Header end ≡ readLine (part p e file) → Asking (e + 1) (n + 1) (part 1 end (part p e file)) []
+      asking-header {end} x = onward (Header end) x (other-asks (a .prefix) h q (Header end) x refl) (λ z. absurd (omega arith))
 
       module _ {key name value : ℕ} (x : Entry key name value ≡ readLine (part p e file)) where
-        there-goes : has (readRows file) (Key group (take key (part p e file))) ≡ true → Asking (e + 1) (n + 1) group
-        there-goes y = rw (← x) at (onward (entry-asks (a .prefix) h q x ∙ rw y))
+        there-goes : {last′ : List ℕ} → has (readRows file) (Key group (take key (part p e file))) ≡ true → (0 < length last′ → has (readRows file) (Key group last′) ≡ true)
+            → Asking (e + 1) (n + 1) group last′
+        there-goes y k = onward (Entry key name value) x (entry-asks (a .prefix) h q x ∙ rw y) k
 
-        pub asking-plain : key ≡ name → Asking (e + 1) (n + 1) group
-        asking-plain i = there-goes (plain-there (a .prefix) h q x i)
+        pub asking-plain : key ≡ name → Asking (e + 1) (n + 1) group (take key (part p e file))
+        asking-plain i = let y = plain-there (a .prefix) h q x i in there-goes y (λ z. y)
 
-        pub asking-found : {line start end at : ℕ} → found.Row line start end at ≡ toldOf (findRow (readRows file) (Key group (take key (part p e file)))) → Asking (e + 1) (n + 1) group
-        asking-found y = there-goes (told-there (findRow (readRows file) (Key group (take key (part p e file)))) y)
+        pub asking-last : true ≡ same last (take key (part p e file)) → Asking (e + 1) (n + 1) group last
+        asking-last y = there-goes (last-is group last h q x (a .last-there) y) (a .last-there)
+
+        pub asking-found : {line start end at : ℕ} → found.Row line start end at ≡ toldOf (findRow (readRows file) (Key group (take key (part p e file))))
+            → Asking (e + 1) (n + 1) group (take key (part p e file))
+        asking-found y = let z = told-there (findRow (readRows file) (Key group (take key (part p e file)))) y in there-goes z (λ i. z)
 
         pub asking-missing : found.Nothing ≡ toldOf (findRow (readRows file) (Key group (take key (part p e file)))) → refused (NoPlainKey n) ≡ plainAll (readRows file)
         unfolding first

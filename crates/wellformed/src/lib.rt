@@ -177,7 +177,8 @@ fn scan(file: &[u8], leading: &[u8], marks: &mut [u64]) -> Scanned
     Scanned::Settled
 }
 
-// The second pass, for a file in which some postfixed key does not follow its plain key: each plain key is looked for.
+// The second pass, for a file in which some postfixed key does not follow its plain key: each plain key is looked for, unless
+// it is the one read or found last.
 fn plain_keys(file: &[u8]) -> Checked
     requires { ⌜ noneBad (now file) ≡ true ⌝ }
     ensures { λ r. ⌜ pass.answered r ≡ pass.plainAll (readRows (now (file .entry))) ⌝ }
@@ -185,6 +186,7 @@ fn plain_keys(file: &[u8]) -> Checked
     let mut p: usize = 0;
     let mut n: usize = 1;
     let mut group = &file[..0];
+    let mut last = &file[..0];
     while p < file.len() {
         let e = rows::line_end(file, p);
         let l = &file[p..e];
@@ -203,6 +205,7 @@ fn plain_keys(file: &[u8]) -> Checked
             }
             Line::Header { end } => {
                 group = &l[1..end];
+                last = &file[..0];
                 p = e + 1;
                 n += 1;
             }
@@ -211,21 +214,31 @@ fn plain_keys(file: &[u8]) -> Checked
                 name,
                 value: _,
             } => {
+                let x = &l[..key];
                 if key == name {
+                    last = x;
                     p = e + 1;
                     n += 1;
                 } else {
-                    match rows::find_key(file, group, &l[..key]) {
-                        Found::Row {
-                            line: _,
-                            start: _,
-                            end: _,
-                            value: _,
-                        } => {
-                            p = e + 1;
-                            n += 1;
+                    if rows::same(last, x) {
+                        p = e + 1;
+                        n += 1;
+                    } else {
+                        match rows::find_key(file, group, x) {
+                            Found::Row {
+                                line: _,
+                                start: _,
+                                end: _,
+                                value: _,
+                            } => {
+                                last = x;
+                                p = e + 1;
+                                n += 1;
+                            }
+                            Found::Nothing => {
+                                return Checked::Refused(Fault::NoPlainKey { line: n });
+                            }
                         }
-                        Found::Nothing => return Checked::Refused(Fault::NoPlainKey { line: n }),
                     }
                 }
             }

@@ -34,13 +34,76 @@ pub lookup-ends-spec : {M : Type 1} → statement M
 lookup-ends-spec =
     tie.close
     (tie.spec
-    (λ c κs. search needs)
-    (λ c. search needs)
-    (λ c. search needs)
-    (λ c κs. search needs)
-    (λ c κs. search needs)
-    (λ c κs. check-good desktopEntry (c .before .before .before .before .before .before .before .before .before .before .args .file .now) (sym (sym (c .before .before .before .before .before .before .check .ensures) ∙ ap pass.answered (c .before .before .before .before .enum-told .given .1))) .0)
-    (λ c κs. search needs)
+    (λ
+    c
+    κs.
+    search
+    needs)
+    (λ
+    c.
+    search
+    needs)
+    (λ
+    c.
+    search
+    needs)
+    (λ
+    c
+    κs.
+    search
+    needs)
+    (λ
+    c
+    κs.
+    search
+    needs)
+    (λ
+    c
+    κs.
+    check-good
+    desktopEntry
+    (c
+    .before
+    .before
+    .before
+    .before
+    .before
+    .before
+    .before
+    .before
+    .before
+    .before
+    .args
+    .file
+    .now)
+    (sym
+    (sym
+    (c
+    .before
+    .before
+    .before
+    .before
+    .before
+    .before
+    .check
+    .ensures)
+    ∙
+    ap
+    pass.answered
+    (c
+    .before
+    .before
+    .before
+    .before
+    .enum-told
+    .given
+    .1)))
+    .0)
+    (λ
+    c
+    κs.
+    search
+    needs)
     returns
     returns-2
     returns-3

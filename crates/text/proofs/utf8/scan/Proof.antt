@@ -6,7 +6,7 @@ use Prim.Native.Nat.{_-_, _≤_}
 use Rattle.text.specs.Class.{member}
 use Rattle.text.specs.Utf8.{textFault}
 use Rattle.text.specs.declared.Due.the-variants.{Start}
-use Rattle.text.proofs.Utf8Laws.{moved, moved-start, fault-goes, fault-stops, fault-none, fault-unfinished}
+use Rattle.text.proofs.Utf8Laws.{moved, skip-fault, skip-le, fault-goes, fault-stops, fault-none, fault-unfinished}
 use Rattle.text.specs.Step.{dueOf}
 use Rattle.text.proofs.utf8.scan.Statement.{statement}
 use Rattle.text.proofs.utf8.scan.Tie as tie
@@ -17,27 +17,34 @@ Inv-loop s k due₀ i₀ due i = (moved i (textFault (member k) due (drop i s)) 
 abbrev μ-loop : tie.MeasureT-loop
 μ-loop s k due₀ i₀ due i = length s - i
 
+loop-holds : tie.Need-loop-holds Inv-loop μ-loop
+loop-holds c =
+    let a = c .before .before .args in
+    rw (c .skip .ensures) (skip-fault (a .k) (a .s .now), skip-le (a .k) (a .s .now))
+
 loop-again : tie.Need-loop-again Inv-loop μ-loop
 loop-again c =
     let m = c .before .before in
     let l = m .before .before .before .before in
-    (sym (fault-goes _ (l .before .before .args .s .now) (l .loop .i) (l .loop .due) (search needs) (sym (m .before .step .ensures) ∙ ap dueOf (c .before .next .given .1))) ∙ l .loop .inv .0, search needs)
+    (sym (fault-goes _ (l .before .before .before .args .s .now) (l .loop .i) (l .loop .due) (search needs) (sym (m .before .step .ensures) ∙ ap dueOf (c .before .next .given .1))) ∙ l .loop .inv .0, search needs)
 
 returns : tie.Need-returns Inv-loop μ-loop
 returns c =
     let m = c .before in
     let l = m .before .before .before .before in
-    sym (fault-stops _ (l .before .before .args .s .now) (l .loop .i) (l .loop .due) (search needs) (sym (m .before .step .ensures) ∙ ap dueOf (c .enum-told .given .1))) ∙ l .loop .inv .0
+    sym (fault-stops _ (l .before .before .before .args .s .now) (l .loop .i) (l .loop .due) (search needs) (sym (m .before .step .ensures) ∙ ap dueOf (c .enum-told .given .1))) ∙ l .loop .inv .0
 
 returns-2 : tie.Need-returns-2 Inv-loop μ-loop
 returns-2 c =
     let l = c .before .before .before in
-    rw (c .enum-told2 .given .1, fault-none (member (l .before .before .args .k)) (l .before .before .args .s .now) (l .loop .i) (search needs)) at (l .loop .inv .0)
+    let a = l .before .before .before .args in
+    rw (c .enum-told2 .given .1, fault-none (member (a .k)) (a .s .now) (l .loop .i) (search needs)) at (l .loop .inv .0)
 
 returns-3 : tie.Need-returns-3 Inv-loop μ-loop
 returns-3 c =
     let l = c .before .before .before in
-    rw (c .enum-told3 .given .1, fault-unfinished (member (l .before .before .args .k)) (l .before .before .args .s .now) (l .loop .i) _ _ _ (search needs)) at (l .loop .inv .0)
+    let a = l .before .before .before .args in
+    rw (c .enum-told3 .given .1, fault-unfinished (member (a .k)) (a .s .now) (l .loop .i) _ _ _ (search needs)) at (l .loop .inv .0)
 
 pub scan-spec : {M : Type 1} → statement M
 scan-spec =
@@ -45,7 +52,8 @@ scan-spec =
     (tie.spec
     Inv-loop
     μ-loop
-    (λ c. (moved-start _, search needs))
+    (λ c κs. search needs)
+    loop-holds
     (λ c. search needs)
     (λ c κs. search needs)
     (λ c. search needs)

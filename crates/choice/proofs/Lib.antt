@@ -1,0 +1,4 @@
+pub mod Choices
+pub mod Chosen
+pub mod Writing
+pub mod Long

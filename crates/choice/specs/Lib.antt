@@ -1,0 +1,2 @@
+pub mod Locale
+pub mod Step

@@ -1,0 +1,15 @@
+-- `tell_ends` meets its contract: a refusal is told by its number and place, and writes no other number. Assumes nothing.
+use mathlib.Core.Path.{refl}
+use borrow.Author.Needs.{needs}
+use Rattle.kveldrim.proofs.tell_ends.Statement.{statement}
+use Rattle.kveldrim.proofs.tell_ends.Tie as tie
+
+pub tell-ends-spec : {M : Type 1} → statement M
+tell-ends-spec =
+    tie.close
+    (tie.spec
+    (λ c. search needs)
+    (λ c. search needs)
+    (λ c κs. search needs)
+    (λ c. search needs)
+    (λ c. rw (c .before .before .before .e2 .given .1) (c .refuse .ensures .0, c .refuse .ensures .1, refl, refl)))

@@ -1,0 +1,191 @@
+/*
+ * kveldrim.h - the C interface of Kveldrim, a proved core for .desktop files (Desktop Entry Specification 1.5).
+ *
+ * Link with libkveldrim.a, which `rt staticlib kveldrim` writes to target/staticlib:
+ *
+ *     cc -Iinclude program.c target/staticlib/libkveldrim.a
+ *
+ * How every call works
+ *
+ * - A byte slice is a pointer and a length in bytes. No byte ends it: bytes are lent as they are, zeros too.
+ *   An empty slice may have any pointer, NULL too. Lengths are at most PTRDIFF_MAX.
+ * - The result is 0 if the call is accepted, else the number of the refusal (table below).
+ * - *place is always written: 0 if accepted, else the refusal's place.
+ * - Every other number is written only if the call is accepted.
+ * - A refusal changes no byte that was lent. An accepted call writes to the start of its output; the rest keeps its bytes.
+ * - Slices are lent for the call only. An output overlaps no other slice, and the number pointers are not NULL, point to
+ *   different numbers and into no slice. Inputs may overlap each other.
+ * - No call allocates memory, keeps anything or waits; calls may run in several threads at once. About 24 KiB of stack
+ *   are enough for each.
+ *
+ * Example
+ *
+ *     uint64_t place, from, to;
+ *     uint32_t refused = kveldrim_lookup(file, file_len,
+ *                                        (const uint8_t *) "Desktop Entry", 13, (const uint8_t *) "Name", 4,
+ *                                        &place, &from, &to);
+ *     if (refused == 0)
+ *         fwrite(file + from, 1, to - from, stdout);
+ *     else
+ *         fprintf(stderr, "refused: %u at %llu\n", (unsigned) refused, (unsigned long long) place);
+ *
+ * Refusals
+ *
+ * A line counts from 1, an offset from 0. Where a place is not named it is 0. Numbers missing here belong to calls that
+ * are still to come.
+ *
+ *     number                   given when                                                         place
+ *      1  KVELDRIM_TOO_LONG     the file is over 32,768 bytes                                      0
+ *      2  KVELDRIM_BAD_LINE     a line is not blank, a comment, a header or an entry               line
+ *      3  KVELDRIM_FIRST        the first line that is neither blank nor comment is not
+ *                               [Desktop Entry]                                                    line
+ *                               no header at all, only blank lines and comments                    0
+ *      4  KVELDRIM_GROUP_TWICE  a group's name stands further up                                   the later line
+ *      5  KVELDRIM_KEY_TWICE    a key with the same postfix stands further up in its group         the later line
+ *      6  KVELDRIM_NO_PLAIN     a key has a postfix, but does not stand without one in its group   the earliest line
+ *      7  KVELDRIM_FORM         a group, key or locale that was asked for is not of its form       0
+ *      8  KVELDRIM_MISSING      no such group or key                                               0
+ *      9  KVELDRIM_ESCAPE       unknown or unfinished escape                                       offset of its backslash
+ *                                                                                                  in the raw value
+ *     10  KVELDRIM_UNFIT        text that no value can hold                                        0
+ *     11  KVELDRIM_NO_ROOM      the output is too small                                            0
+ *     18  KVELDRIM_INCOMPLETE   a key that is needed is missing                                    0
+ *                               Type or a yes-or-no key has a value that it cannot have            line
+ *
+ * Where several apply: 1; the earliest line with 2 to 5 (2 first on that line); 3 for no header; 6; 7; 10; 8; 9; 18; 11.
+ *
+ * Forms
+ *
+ * A group's name is one or more of the bytes 0x20 to 0x7E without [ and ]. A key is one or more of A-Z a-z 0-9 and -.
+ * A postfix is [LOCALE], right after the key. A locale is lang, then perhaps _COUNTRY, .ENCODING and @MODIFIER in this
+ * order, each part one or more of A-Z a-z 0-9 and -. Names are compared byte by byte.
+ */
+#ifndef KVELDRIM_H
+#define KVELDRIM_H
+
+#include <stddef.h>
+#include <stdint.h>
+
+#ifdef __cplusplus
+extern "C" {
+#endif
+
+/* The most bytes that a file may have. */
+#define KVELDRIM_FILE_BOUND 32768
+
+/* The refusals; the table above says when each is given. */
+#define KVELDRIM_TOO_LONG 1
+#define KVELDRIM_BAD_LINE 2
+#define KVELDRIM_FIRST 3
+#define KVELDRIM_GROUP_TWICE 4
+#define KVELDRIM_KEY_TWICE 5
+#define KVELDRIM_NO_PLAIN 6
+#define KVELDRIM_FORM 7
+#define KVELDRIM_MISSING 8
+#define KVELDRIM_ESCAPE 9
+#define KVELDRIM_UNFIT 10
+#define KVELDRIM_NO_ROOM 11
+#define KVELDRIM_INCOMPLETE 18
+
+/*
+ * Asks whether a file is well formed.
+ *
+ *     file, file_len   the whole file
+ *
+ * Refusals: 1 to 6.
+ */
+uint32_t kveldrim_check(const uint8_t *file, size_t file_len, uint64_t *place);
+
+/*
+ * Asks whether a file is well formed and has what it needs in its group Desktop Entry: Type is Application, Link or
+ * Directory; Name is there; Exec is there for an Application, unless DBusActivatable is true; URL is there for a Link;
+ * and NoDisplay, Hidden, DBusActivatable, Terminal and StartupNotify are true or false where they are there. Faults are
+ * told in this order, the last five keys' by line.
+ *
+ *     file, file_len   the whole file
+ *
+ * Refusals: 1 to 6, 18.
+ */
+uint32_t kveldrim_complete(const uint8_t *file, size_t file_len, uint64_t *place);
+
+/*
+ * Finds the raw value of a key. Its escapes are not read: kveldrim_read_text and kveldrim_read_list do that.
+ *
+ *     file, file_len     the whole file
+ *     group, group_len   the group's name, without brackets
+ *     key, key_len       the key, with its postfix if it has one: Name or Name[de]
+ *     from, to           where the value starts in the file, and where it ends; an empty value has both at its line's end
+ *
+ * Refusals: 1 to 6, 7, 8.
+ */
+uint32_t kveldrim_lookup(const uint8_t *file, size_t file_len,
+                         const uint8_t *group, size_t group_len,
+                         const uint8_t *key, size_t key_len,
+                         uint64_t *place, uint64_t *from, uint64_t *to);
+
+/*
+ * Finds the raw value that suits a locale best. The locale loses its .ENCODING; then the first that is there of
+ * lang_COUNTRY@MODIFIER, lang_COUNTRY, lang@MODIFIER, lang and the plain key is taken, as far as the locale has these
+ * parts. The empty locale, C and POSIX mean the plain key.
+ *
+ *     file, file_len       the whole file
+ *     group, group_len     the group's name, without brackets
+ *     key, key_len         the key, without postfix (else 7)
+ *     locale, locale_len   the locale, as de_DE.UTF-8, or empty
+ *     from, to             where the value starts in the file, and where it ends
+ *
+ * Refusals: 1 to 6, 7, 8.
+ */
+uint32_t kveldrim_choose(const uint8_t *file, size_t file_len,
+                         const uint8_t *group, size_t group_len,
+                         const uint8_t *key, size_t key_len,
+                         const uint8_t *locale, size_t locale_len,
+                         uint64_t *place, uint64_t *from, uint64_t *to);
+
+/*
+ * Reads the escapes of a raw value: \s is a space, \n LF, \t tab, \r CR, \\ a backslash; other bytes stand for themselves.
+ *
+ *     raw, raw_len   the raw value; any bytes are taken
+ *     out, out_len   the output; raw_len bytes are always enough
+ *     written        how many bytes were written to the output
+ *
+ * Refusals: 9, 11.
+ */
+uint32_t kveldrim_read_text(const uint8_t *raw, size_t raw_len,
+                            uint8_t *out, size_t out_len,
+                            uint64_t *place, uint64_t *written);
+
+/*
+ * Writes text as a raw value: backslash, LF, tab and CR as escapes, and a space as \s if it is the first byte. Text is
+ * UTF-8 (RFC 3629) without 0x7F and without bytes below 0x20 other than LF, tab and CR, else 10.
+ *
+ *     text, text_len   the text
+ *     out, out_len     the output; twice text_len bytes are always enough
+ *     written          how many bytes were written to the output
+ *
+ * Refusals: 10, 11.
+ */
+uint32_t kveldrim_write_text(const uint8_t *text, size_t text_len,
+                             uint8_t *out, size_t out_len,
+                             uint64_t *place, uint64_t *written);
+
+/*
+ * Reads a raw value that is a list. A ; ends an element; bytes left at the end are one more element. Escapes are those of
+ * kveldrim_read_text, and \; for a semicolon. Each element is written as a record, one after another: the length of the
+ * whole record (4 bytes, little-endian), the kind 2 (2 bytes, little-endian), the element's bytes.
+ *
+ *     raw, raw_len   the raw value; any bytes are taken
+ *     out, out_len   the output; 6 * raw_len + 1 bytes are always enough
+ *     written        how many bytes were written to the output
+ *
+ * Refusals: 9 (for the first wrong backslash of the whole list; no element is written then), 11.
+ */
+uint32_t kveldrim_read_list(const uint8_t *raw, size_t raw_len,
+                            uint8_t *out, size_t out_len,
+                            uint64_t *place, uint64_t *written);
+
+#ifdef __cplusplus
+}
+#endif
+
+#endif

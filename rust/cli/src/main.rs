@@ -1,0 +1,144 @@
+//! The command `kveldrim`: checks .desktop files and reads their values, with the proved core behind it.
+
+#![forbid(unsafe_code)]
+
+mod arguments;
+mod report;
+
+use std::env;
+use std::ffi::{OsStr, OsString};
+use std::fs::File;
+use std::io::{self, Read, Write};
+use std::os::unix::ffi::OsStrExt;
+use std::process::ExitCode;
+
+use arguments::{Command, Wanted};
+use report::Trouble;
+
+const HELP: &str = "\
+Checks .desktop files and reads their values.
+
+  kveldrim check FILE..                 is each file well formed?
+  kveldrim complete FILE..              has it also what an entry needs (Type, Name, Exec or URL ..)?
+  kveldrim get FILE KEY                 writes the value of KEY, its escapes read
+      --group G     in the group G (without: Desktop Entry)
+      --locale L    the value that suits the locale L best, as de_AT.UTF-8;
+                    auto: the locale of LC_ALL, LC_MESSAGES or LANG, the first that is set
+                    (without: just KEY, which may have a locale of its own, as Name[de])
+      --raw         the value as it stands in the file
+  kveldrim list FILE KEY [--group G]    writes the elements of a list, each on a line of its own
+  kveldrim --help, kveldrim --version
+
+A word -- ends the options. Values are written as the bytes they are, with a line feed after each. Faults are told as
+FILE:LINE:BYTE: what is wrong, as far as line and byte are known; both count from 1.
+
+Exit status: 0 all is well; 1 a file or a question was refused; 2 bad usage, or a file that cannot be read.
+";
+
+fn main() -> ExitCode {
+    let command = match arguments::read(env::args_os().skip(1)) {
+        Ok(command) => command,
+        Err(fault) => return Trouble::usage(&fault).tell(),
+    };
+    match command {
+        Command::Help => write(HELP.as_bytes()),
+        Command::Version => write(concat!("kveldrim ", env!("CARGO_PKG_VERSION"), "\n").as_bytes()),
+        Command::Check(files) => each(&files, |file, bytes| {
+            kveldrim::check(bytes).map_err(|refusal| Trouble::of_file(file, bytes, refusal))
+        }),
+        Command::Complete(files) => each(&files, |file, bytes| {
+            kveldrim::complete(bytes).map_err(|refusal| Trouble::of_file(file, bytes, refusal))
+        }),
+        Command::Get(wanted) => get(&wanted),
+        Command::List(wanted) => list(&wanted),
+    }
+}
+
+/// Asks the same of every file; the status is that of the worst.
+fn each(files: &[OsString], ask: impl Fn(&OsStr, &[u8]) -> Result<(), Trouble>) -> ExitCode {
+    let mut status = 0;
+    for file in files {
+        if let Err(trouble) = read(file).and_then(|bytes| ask(file, &bytes)) {
+            status = status.max(trouble.status());
+            trouble.tell();
+        }
+    }
+    ExitCode::from(status)
+}
+
+fn get(wanted: &Wanted) -> ExitCode {
+    let answer = read(&wanted.file).and_then(|bytes| {
+        let from = find(wanted, &bytes)?;
+        let raw = &bytes[from.clone()];
+        if wanted.raw {
+            return Ok([raw, b"\n"].concat());
+        }
+        let mut text = kveldrim::read_text_vec(raw)
+            .map_err(|refusal| Trouble::of_value(wanted, &bytes, from.start, refusal))?;
+        text.push(b'\n');
+        Ok(text)
+    });
+    finish(answer)
+}
+
+fn list(wanted: &Wanted) -> ExitCode {
+    let answer = read(&wanted.file).and_then(|bytes| {
+        let from = find(wanted, &bytes)?;
+        let elements = kveldrim::read_list_vec(&bytes[from.clone()])
+            .map_err(|refusal| Trouble::of_value(wanted, &bytes, from.start, refusal))?;
+        let lines = elements
+            .into_iter()
+            .flat_map(|element| [element, b"\n".to_vec()]);
+        Ok(lines.collect::<Vec<_>>().concat())
+    });
+    finish(answer)
+}
+
+/// Where the raw value stands that is wanted: by its locale, or just by its key.
+fn find(wanted: &Wanted, file: &[u8]) -> Result<std::ops::Range<usize>, Trouble> {
+    let (group, key) = (wanted.group.as_bytes(), wanted.key.as_bytes());
+    let found = match &wanted.locale {
+        None => kveldrim::lookup_ends(file, group, key),
+        Some(locale) if locale == "auto" => {
+            kveldrim::choose_ends(file, group, key, locale_of_environment().as_bytes())
+        }
+        Some(locale) => kveldrim::choose_ends(file, group, key, locale.as_bytes()),
+    };
+    found.map_err(|refusal| Trouble::of_question(wanted, file, refusal))
+}
+
+/// The locale for messages: of the first variable that is set and not empty; none means the plain key.
+fn locale_of_environment() -> OsString {
+    ["LC_ALL", "LC_MESSAGES", "LANG"]
+        .into_iter()
+        .filter_map(env::var_os)
+        .find(|locale| !locale.is_empty())
+        .unwrap_or_default()
+}
+
+/// The bytes of a file, or so many of them that the core refuses it as too long.
+fn read(file: &OsStr) -> Result<Vec<u8>, Trouble> {
+    let mut bytes = Vec::new();
+    File::open(file)
+        .and_then(|open| {
+            open.take(kveldrim::FILE_BOUND as u64 + 1)
+                .read_to_end(&mut bytes)
+        })
+        .map_err(|error| Trouble::unreadable(file, &error))?;
+    Ok(bytes)
+}
+
+fn finish(answer: Result<Vec<u8>, Trouble>) -> ExitCode {
+    match answer {
+        Ok(bytes) => write(&bytes),
+        Err(trouble) => trouble.tell(),
+    }
+}
+
+fn write(bytes: &[u8]) -> ExitCode {
+    let mut out = io::stdout().lock();
+    match out.write_all(bytes).and_then(|()| out.flush()) {
+        Ok(()) => ExitCode::SUCCESS,
+        Err(error) => Trouble::unwritable(&error).tell(),
+    }
+}

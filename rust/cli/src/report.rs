@@ -1,0 +1,123 @@
+//! What goes wrong, told on standard error in one line: `FILE:LINE:BYTE: words`, so that editors jump there.
+
+use std::ffi::OsStr;
+use std::io::{self, Write};
+use std::os::unix::ffi::OsStrExt;
+use std::process::ExitCode;
+
+use kveldrim::{Place, Refusal, DESKTOP_ENTRY};
+
+use crate::arguments::Wanted;
+
+/// A message and the exit status that goes with it.
+pub struct Trouble {
+    message: Vec<u8>,
+    status: u8,
+}
+
+const REFUSED: u8 = 1;
+const UNUSABLE: u8 = 2;
+
+impl Trouble {
+    pub fn status(&self) -> u8 {
+        self.status
+    }
+
+    /// Writes the message; a message that cannot be written leaves at least the status.
+    pub fn tell(&self) -> ExitCode {
+        let mut line = self.message.clone();
+        line.push(b'\n');
+        let _ = io::stderr().write_all(&line);
+        ExitCode::from(self.status)
+    }
+
+    pub fn usage(fault: &[u8]) -> Trouble {
+        Trouble {
+            message: [b"kveldrim: ", fault, b" (kveldrim --help tells more)"].concat(),
+            status: UNUSABLE,
+        }
+    }
+
+    pub fn unreadable(file: &OsStr, error: &io::Error) -> Trouble {
+        let words = format!(": cannot be read: {error}");
+        Trouble {
+            message: [file.as_bytes(), words.as_bytes()].concat(),
+            status: UNUSABLE,
+        }
+    }
+
+    pub fn unwritable(error: &io::Error) -> Trouble {
+        Trouble {
+            message: format!("kveldrim: the answer cannot be written: {error}").into(),
+            status: UNUSABLE,
+        }
+    }
+
+    /// A refusal of the file itself.
+    pub fn of_file(file: &OsStr, bytes: &[u8], refusal: Refusal) -> Trouble {
+        let words = match (refusal.number, refusal.place) {
+            (18, 0) => missing_key(bytes),
+            _ => refusal.words(),
+        };
+        match refusal.at() {
+            Place::Line(line) => refused(file, &format!("{line}:"), words.as_bytes()),
+            _ => refused(file, "", words.as_bytes()),
+        }
+    }
+
+    /// A refusal of what is asked for, or of the file it is asked of.
+    pub fn of_question(wanted: &Wanted, bytes: &[u8], refusal: Refusal) -> Trouble {
+        let (key, group) = (wanted.key.as_bytes(), wanted.group.as_bytes());
+        match refusal.number {
+            7 => refused(&wanted.file, "", FORMS),
+            8 => {
+                let words = [b"there is no key ", key, b" in a group ", group];
+                refused(&wanted.file, "", &words.concat())
+            }
+            _ => Trouble::of_file(&wanted.file, bytes, refusal),
+        }
+    }
+
+    /// A refusal of a value that starts at `start` in the file.
+    pub fn of_value(wanted: &Wanted, bytes: &[u8], start: usize, refusal: Refusal) -> Trouble {
+        match refusal.at() {
+            Place::Offset(offset) => {
+                let (line, byte) = line_and_byte(bytes, start + offset as usize);
+                let place = format!("{line}:{byte}:");
+                refused(&wanted.file, &place, refusal.words().as_bytes())
+            }
+            _ => Trouble::of_file(&wanted.file, bytes, refusal),
+        }
+    }
+}
+
+/// What refusal 7 means to somebody at a keyboard.
+const FORMS: &[u8] = b"the group, key or locale asked for is not well written \
+    (a key has letters, digits and -, then perhaps [locale], but not beside --locale; \
+    a locale is as de, de_AT, de_AT.UTF-8 or de_AT.UTF-8@euro)";
+
+fn refused(file: &OsStr, place: &str, words: &[u8]) -> Trouble {
+    Trouble {
+        message: [file.as_bytes(), b":", place.as_bytes(), b" ", words].concat(),
+        status: REFUSED,
+    }
+}
+
+/// Which key is missing in a file that is refused as incomplete (18) without a line.
+fn missing_key(bytes: &[u8]) -> &'static str {
+    let plain = |key| kveldrim::lookup(bytes, DESKTOP_ENTRY, key);
+    match (plain(b"Type"), plain(b"Name")) {
+        (Err(_), _) => "the key Type is missing in the group Desktop Entry",
+        (_, Err(_)) => "the key Name is missing in the group Desktop Entry",
+        (Ok(b"Link"), _) => "the key URL is missing in the group Desktop Entry; a Link needs it",
+        _ => "the key Exec is missing in the group Desktop Entry; an Application needs it",
+    }
+}
+
+/// The line of an offset in the file and the byte in that line, both from 1.
+fn line_and_byte(bytes: &[u8], offset: usize) -> (usize, usize) {
+    let before = &bytes[..offset];
+    let feeds = before.iter().filter(|byte| **byte == b'\n').count();
+    let start = before.iter().rposition(|byte| *byte == b'\n');
+    (feeds + 1, offset - start.map_or(0, |at| at + 1) + 1)
+}

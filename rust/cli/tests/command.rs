@@ -1,0 +1,313 @@
+//! Runs the command as a user does: what it writes, what it tells, how it ends.
+
+use std::ffi::{OsStr, OsString};
+use std::fs;
+use std::os::unix::ffi::{OsStrExt, OsStringExt};
+use std::path::PathBuf;
+use std::process::{self, Command};
+use std::sync::atomic::{AtomicU32, Ordering};
+
+const T: &[u8] = b"[Desktop Entry]\nType=Application\nName=Lesen\nName[fr]=Lire\nExec=view %F\n";
+
+/// A folder of a test's own, removed at the end.
+struct Folder(PathBuf);
+
+impl Folder {
+    fn new() -> Folder {
+        static NUMBER: AtomicU32 = AtomicU32::new(0);
+        let number = NUMBER.fetch_add(1, Ordering::Relaxed);
+        let name = format!("kveldrim-command-{}-{number}", process::id());
+        let folder = std::env::temp_dir().join(name);
+        fs::create_dir(&folder).unwrap();
+        Folder(folder)
+    }
+
+    fn with(self, name: &[u8], bytes: &[u8]) -> Folder {
+        fs::write(self.0.join(OsStr::from_bytes(name)), bytes).unwrap();
+        self
+    }
+
+    /// Runs the command in the folder, without a locale in the environment but the given variables.
+    fn run_in(&self, variables: &[(&str, &str)], words: &[&[u8]]) -> Outcome {
+        let words = words.iter().map(|word| OsString::from_vec(word.to_vec()));
+        let output = Command::new(env!("CARGO_BIN_EXE_kveldrim"))
+            .args(words)
+            .current_dir(&self.0)
+            .env_clear()
+            .envs(variables.iter().copied())
+            .output()
+            .unwrap();
+        Outcome {
+            status: output.status.code().unwrap(),
+            out: output.stdout,
+            told: output.stderr,
+        }
+    }
+
+    fn run(&self, words: &[&[u8]]) -> Outcome {
+        self.run_in(&[], words)
+    }
+}
+
+impl Drop for Folder {
+    fn drop(&mut self) {
+        let _ = fs::remove_dir_all(&self.0);
+    }
+}
+
+struct Outcome {
+    status: i32,
+    out: Vec<u8>,
+    told: Vec<u8>,
+}
+
+impl Outcome {
+    fn writes(&self, expected: &[u8]) {
+        assert_eq!(self.told.escape_ascii().to_string(), "");
+        let (out, expected) = (self.out.escape_ascii(), expected.escape_ascii());
+        assert_eq!(out.to_string(), expected.to_string());
+        assert_eq!(self.status, 0);
+    }
+
+    /// Nothing is written; each line that is told starts so.
+    fn tells(&self, status: i32, starts: &[&str]) {
+        let told = String::from_utf8(self.told.clone()).unwrap();
+        let lines: Vec<&str> = told.lines().collect();
+        assert_eq!(lines.len(), starts.len(), "{told}");
+        for (line, start) in lines.iter().zip(starts) {
+            assert!(line.starts_with(start), "{line}, not {start}");
+        }
+        assert_eq!(self.out.escape_ascii().to_string(), "");
+        assert_eq!(self.status, status);
+    }
+}
+
+#[test]
+fn check_is_quiet_about_a_good_file() {
+    let folder = Folder::new().with(b"t.desktop", T);
+    folder.run(&[b"check", b"t.desktop"]).writes(b"");
+    folder
+        .run(&[b"complete", b"t.desktop", b"t.desktop"])
+        .writes(b"");
+}
+
+#[test]
+fn check_tells_file_and_line() {
+    let folder = Folder::new()
+        .with(b"good", T)
+        .with(b"bad", b"[Desktop Entry]\nName\n")
+        .with(b"empty", b"")
+        .with(b"first", b"# a\n[Other]\n")
+        .with(b"group", b"[Desktop Entry]\n[a]\n[a]\n")
+        .with(b"key", b"[Desktop Entry]\na=1\na=2\n")
+        .with(b"plain", b"[Desktop Entry]\na[de]=1\n")
+        .with(b"long", &vec![b'\n'; 40_000]);
+    let outcome = folder.run(&[
+        b"check", b"good", b"bad", b"empty", b"first", b"group", b"key", b"plain", b"long",
+    ]);
+    outcome.tells(
+        1,
+        &[
+            "bad:2: this line is not",
+            "empty: the file has no header",
+            "first:2: before this line",
+            "group:3: a group of this name",
+            "key:3: this key stands",
+            "plain:2: this key has a [locale]",
+            "long: the file is over 32,768 bytes",
+        ],
+    );
+}
+
+#[test]
+fn complete_tells_what_is_missing() {
+    let folder = Folder::new()
+        .with(b"type", b"[Desktop Entry]\nName=n\n")
+        .with(b"name", b"[Desktop Entry]\nType=Link\n")
+        .with(b"exec", b"[Desktop Entry]\nType=Application\nName=n\n")
+        .with(b"url", b"[Desktop Entry]\nType=Link\nName=n\n")
+        .with(
+            b"boolean",
+            b"[Desktop Entry]\nType=Directory\nName=n\nHidden=yes\n",
+        )
+        .with(b"bad", b"[Desktop Entry]\n=\n");
+    let outcome = folder.run(&[
+        b"complete",
+        b"type",
+        b"name",
+        b"exec",
+        b"url",
+        b"boolean",
+        b"bad",
+    ]);
+    outcome.tells(
+        1,
+        &[
+            "type: the key Type is missing",
+            "name: the key Name is missing",
+            "exec: the key Exec is missing",
+            "url: the key URL is missing",
+            "boolean:4: Type must be",
+            "bad:2: this line is not",
+        ],
+    );
+}
+
+#[test]
+fn a_file_that_cannot_be_read_is_2() {
+    let folder = Folder::new().with(b"bad", b"x\n");
+    folder
+        .run(&[b"check", b"none", b"bad", b"."])
+        .tells(2, &["none: cannot be read", "bad:1: ", ".: cannot be read"]);
+    folder
+        .run(&[b"get", b"none", b"Name"])
+        .tells(2, &["none: cannot be read"]);
+}
+
+#[test]
+fn get_writes_the_value() {
+    let file =
+        b"[Desktop Entry]\nName=a\\sb\\n\\\\\nName[fr]=Lire\nEmpty=\n[Other group]\nName = x \n";
+    let folder = Folder::new().with(b"f", file);
+    folder.run(&[b"get", b"f", b"Name"]).writes(b"a b\n\\\n");
+    folder
+        .run(&[b"get", b"f", b"Name", b"--raw"])
+        .writes(b"a\\sb\\n\\\\\n");
+    folder.run(&[b"get", b"f", b"Name[fr]"]).writes(b"Lire\n");
+    folder.run(&[b"get", b"f", b"Empty"]).writes(b"\n");
+    folder
+        .run(&[b"get", b"--group", b"Other group", b"f", b"Name"])
+        .writes(b"x \n");
+    folder
+        .run(&[b"get", b"f", b"--group=Other group", b"--", b"Name"])
+        .writes(b"x \n");
+}
+
+#[test]
+fn get_chooses_by_locale_only_if_asked() {
+    let folder = Folder::new().with(b"t", T);
+    let french = [("LANG", "fr_FR.UTF-8")];
+    folder
+        .run_in(&french, &[b"get", b"t", b"Name"])
+        .writes(b"Lesen\n");
+    let auto: &[&[u8]] = &[b"get", b"t", b"Name", b"--locale", b"auto"];
+    folder.run_in(&french, auto).writes(b"Lire\n");
+    folder.run_in(&[], auto).writes(b"Lesen\n");
+    folder
+        .run_in(
+            &[("LC_ALL", ""), ("LC_MESSAGES", "fr"), ("LANG", "de")],
+            auto,
+        )
+        .writes(b"Lire\n");
+    folder
+        .run_in(&[("LC_ALL", "C"), ("LANG", "fr")], auto)
+        .writes(b"Lesen\n");
+    folder
+        .run(&[b"get", b"t", b"Name", b"--locale", b"fr_CA@x"])
+        .writes(b"Lire\n");
+    folder
+        .run(&[b"get", b"t", b"Name", b"--locale="])
+        .writes(b"Lesen\n");
+}
+
+#[test]
+fn get_tells_refusals() {
+    let folder = Folder::new()
+        .with(b"t", T)
+        .with(b"escape", b"[Desktop Entry]\nA=1\nName =  ab\\q\n")
+        .with(b"bad", b"[Desktop Entry]\n\x80\n");
+    folder
+        .run(&[b"get", b"t", b"Icon"])
+        .tells(1, &["t: there is no key Icon in a group Desktop Entry"]);
+    folder
+        .run(&[b"get", b"t", b"Name", b"--group", b"X"])
+        .tells(1, &["t: there is no key Name in a group X"]);
+    folder
+        .run(&[b"get", b"t", b"Na me"])
+        .tells(1, &["t: the group, key or locale"]);
+    folder
+        .run(&[b"get", b"t", b"Name[fr]", b"--locale", b"fr"])
+        .tells(1, &["t: the group, key or locale"]);
+    folder
+        .run(&[b"get", b"escape", b"Name"])
+        .tells(1, &["escape:3:11: unknown or unfinished escape"]);
+    folder
+        .run(&[b"get", b"escape", b"Name", b"--raw"])
+        .writes(b"ab\\q\n");
+    folder
+        .run(&[b"get", b"bad", b"Name"])
+        .tells(1, &["bad:2: "]);
+}
+
+#[test]
+fn list_writes_each_element() {
+    let file = b"[Desktop Entry]\nA=a\\;b;;c\\s\nB=\nC=x;y\\;\\\n[G]\nA=1;2;\n";
+    let folder = Folder::new().with(b"f", file);
+    folder.run(&[b"list", b"f", b"A"]).writes(b"a;b\n\nc \n");
+    folder.run(&[b"list", b"f", b"B"]).writes(b"");
+    folder
+        .run(&[b"list", b"f", b"A", b"--group", b"G"])
+        .writes(b"1\n2\n");
+    folder
+        .run(&[b"list", b"f", b"C"])
+        .tells(1, &["f:4:8: unknown or unfinished escape"]);
+}
+
+/// Bytes go through as they are: a file's name that is not UTF-8, both spellings of Müller.
+#[test]
+fn bytes_are_not_altered() {
+    let file = "[Desktop Entry]\nA=M\u{FC}ller\nB=Mu\u{308}ller\n";
+    let folder = Folder::new()
+        .with(b"f\xFF", file.as_bytes())
+        .with(b"\xC0", b"x\n");
+    folder
+        .run(&[b"get", b"f\xFF", b"A"])
+        .writes("M\u{FC}ller\n".as_bytes());
+    folder
+        .run(&[b"get", b"f\xFF", b"B"])
+        .writes("Mu\u{308}ller\n".as_bytes());
+    let outcome = folder.run(&[b"check", b"\xC0"]);
+    assert!(outcome.told.starts_with(b"\xC0:1: "));
+    let outcome = folder.run(&[b"get", b"f\xFF", b"\xFE"]);
+    assert!(outcome.told.starts_with(b"f\xFF: "));
+    assert_eq!(outcome.status, 1);
+}
+
+#[test]
+fn bad_usage_is_2() {
+    let folder = Folder::new().with(b"t", T);
+    let wrong: &[&[&[u8]]] = &[
+        &[],
+        &[b"chekc", b"t"],
+        &[b"check"],
+        &[b"check", b"--raw", b"t"],
+        &[b"check", b"--group", b"x", b"t"],
+        &[b"get", b"t"],
+        &[b"get", b"t", b"Name", b"Name"],
+        &[b"get", b"t", b"Name", b"--locale"],
+        &[b"get", b"t", b"Name", b"--locale", b"a", b"--locale=b"],
+        &[b"get", b"t", b"Name", b"--raw=1"],
+        &[b"get", b"t", b"Name", b"--rwa"],
+        &[b"list", b"t", b"Name", b"--raw"],
+        &[b"list", b"t", b"Name", b"--locale", b"de"],
+        &[b"\xFF"],
+    ];
+    for words in wrong {
+        let outcome = folder.run(words);
+        assert_eq!(outcome.status, 2, "{words:?}");
+        assert!(outcome.told.starts_with(b"kveldrim: "), "{words:?}");
+        assert!(outcome.out.is_empty());
+    }
+}
+
+#[test]
+fn help_and_version() {
+    let folder = Folder::new();
+    for words in [&[&b"--help"[..]][..], &[b"-h"], &[b"get", b"--help"]] {
+        let outcome = folder.run(words);
+        assert_eq!(outcome.status, 0);
+        assert!(outcome.out.starts_with(b"Checks .desktop files"));
+    }
+    let version = concat!("kveldrim ", env!("CARGO_PKG_VERSION"), "\n");
+    folder.run(&[b"--version"]).writes(version.as_bytes());
+}

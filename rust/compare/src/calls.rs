@@ -1,0 +1,335 @@
+//! Each call of the library, over the C interface and over the bindings, held against the reference.
+
+use std::collections::BTreeMap;
+
+use kveldrim::ffi;
+
+use crate::lent::{Lent, Numbers};
+use crate::random::Random;
+
+/// How often each call gave each number, 0 for an answer.
+pub type Tally = BTreeMap<(&'static str, u32), u64>;
+
+/// A question to the library.
+#[derive(Clone)]
+pub enum Case {
+    /// A file to check, and what is looked up and chosen in it.
+    File { file: Vec<u8>, asks: Vec<Ask> },
+    /// Bytes to read as text and as a list, and to write as text.
+    Text(Vec<u8>),
+}
+
+/// The arguments of a lookup (group, key) and of a choice (group, plain key, locale).
+#[derive(Clone)]
+pub struct Ask {
+    pub group: Vec<u8>,
+    pub key: Vec<u8>,
+    pub plain: Vec<u8>,
+    pub locale: Vec<u8>,
+}
+
+/// The reference's answer in numbers, or the refusal's number and place.
+type Expected = Result<Vec<u64>, (u32, u64)>;
+
+impl Case {
+    /// The bytes that the question is about.
+    pub fn bytes(&self) -> &[u8] {
+        match self {
+            Case::File { file, .. } => file,
+            Case::Text(text) => text,
+        }
+    }
+
+    /// The same question about other bytes.
+    pub fn about(&self, bytes: Vec<u8>) -> Case {
+        match self {
+            Case::File { asks, .. } => Case::File {
+                file: bytes,
+                asks: asks.clone(),
+            },
+            Case::Text(_) => Case::Text(bytes),
+        }
+    }
+
+    /// Asks both, and tells the first difference.
+    pub fn compare(&self, asker: &mut Asker) -> Result<(), String> {
+        match self {
+            Case::File { file, asks } => {
+                asker.check(file)?;
+                asker.complete(file)?;
+                for ask in asks {
+                    asker.lookup(file, ask)?;
+                    asker.choose(file, ask)?;
+                }
+                Ok(())
+            }
+            Case::Text(text) => {
+                asker.read_text(text)?;
+                asker.write_text(text)?;
+                asker.read_list(text)
+            }
+        }
+    }
+}
+
+/// Names the call in which a difference was found.
+fn named(call: &str, arguments: &[&[u8]], outcome: Result<(), String>) -> Result<(), String> {
+    outcome.map_err(|difference| {
+        let mut call = call.to_string();
+        for argument in arguments {
+            call += &format!(" \"{}\"", argument.escape_ascii());
+        }
+        format!("{call}\n{difference}")
+    })
+}
+
+fn refusal(refusal: reference::Refusal) -> (u32, u64) {
+    (refusal.number, refusal.place)
+}
+
+/// Whether the bindings answer as the reference does.
+fn bound<A: PartialEq + std::fmt::Debug>(
+    answer: Result<A, kveldrim::Refusal>,
+    expected: Result<A, (u32, u64)>,
+) -> Result<(), String> {
+    let answer = answer.map_err(|refusal| (refusal.number, refusal.place));
+    if answer == expected {
+        return Ok(());
+    }
+    Err(format!(
+        "the bindings tell  {answer:?}\nthe reference      {expected:?}"
+    ))
+}
+
+/// A value's two ends as numbers.
+fn ends(expected: Result<(usize, usize), (u32, u64)>) -> Expected {
+    expected.map(|(from, to)| vec![from as u64, to as u64])
+}
+
+/// Whether the bindings hand back just this part of the file, not a copy of it.
+fn part(
+    file: &[u8],
+    answer: Result<&[u8], kveldrim::Refusal>,
+    expected: Result<(usize, usize), (u32, u64)>,
+) -> Result<(), String> {
+    let start = file.as_ptr() as usize;
+    let ends = answer.map(|value| {
+        let from = value.as_ptr() as usize - start;
+        (from, from + value.len())
+    });
+    bound(ends, expected)
+}
+
+/// Asks the library and the reference the same.
+pub struct Asker {
+    random: Random,
+    pub tally: Tally,
+}
+
+impl Asker {
+    pub fn new(seed: u64) -> Asker {
+        Asker {
+            random: Random::new(seed),
+            tally: Tally::new(),
+        }
+    }
+
+    /// The same buffers again, for a case of its own seed.
+    pub fn start(&mut self, seed: u64) {
+        self.random = Random::new(seed);
+    }
+
+    fn lend(&mut self, bytes: &[u8]) -> Lent {
+        Lent::new(bytes, &mut self.random)
+    }
+
+    fn count<A>(&mut self, call: &'static str, expected: &Result<A, (u32, u64)>) {
+        let number = expected.as_ref().err().map_or(0, |refusal| refusal.0);
+        *self.tally.entry((call, number)).or_default() += 1;
+    }
+
+    pub fn check(&mut self, file: &[u8]) -> Result<(), String> {
+        let expected = reference::check(file).map_err(refusal);
+        self.count("check", &expected);
+        let outcome = self
+            .file_call(file, ffi::kveldrim_check, expected)
+            .and_then(|()| bound(kveldrim::check(file), expected));
+        named("check", &[], outcome)
+    }
+
+    pub fn complete(&mut self, file: &[u8]) -> Result<(), String> {
+        let expected = reference::complete(file).map_err(refusal);
+        self.count("complete", &expected);
+        let outcome = self
+            .file_call(file, ffi::kveldrim_complete, expected)
+            .and_then(|()| bound(kveldrim::complete(file), expected));
+        named("complete", &[], outcome)
+    }
+
+    /// A call that takes just a file.
+    fn file_call(
+        &mut self,
+        file: &[u8],
+        call: unsafe extern "C" fn(*const u8, usize, *mut u64) -> u32,
+        expected: Result<(), (u32, u64)>,
+    ) -> Result<(), String> {
+        let lent = self.lend(file);
+        let mut numbers = Numbers::new();
+        let (place, _, _) = numbers.pointers();
+        // SAFETY: the bytes and the number outlive the call.
+        let result = unsafe { call(lent.pointer(), lent.len(), place) };
+        numbers.tell(result, &expected.map(|()| Vec::new()))?;
+        lent.holds(file)
+    }
+
+    pub fn lookup(&mut self, file: &[u8], ask: &Ask) -> Result<(), String> {
+        let (group, key) = (&ask.group[..], &ask.key[..]);
+        let expected = reference::lookup(file, group, key).map_err(refusal);
+        self.count("lookup", &expected);
+        let lent = [file, group, key].map(|bytes| self.lend(bytes));
+        let mut numbers = Numbers::new();
+        let (place, from, to) = numbers.pointers();
+        // SAFETY: the bytes and the numbers outlive the call.
+        let result = unsafe {
+            ffi::kveldrim_lookup(
+                lent[0].pointer(),
+                lent[0].len(),
+                lent[1].pointer(),
+                lent[1].len(),
+                lent[2].pointer(),
+                lent[2].len(),
+                place,
+                from,
+                to,
+            )
+        };
+        let outcome = numbers
+            .tell(result, &ends(expected))
+            .and_then(|()| lent[0].holds(file))
+            .and_then(|()| lent[1].holds(group))
+            .and_then(|()| lent[2].holds(key))
+            .and_then(|()| part(file, kveldrim::lookup(file, group, key), expected));
+        named("lookup", &[group, key], outcome)
+    }
+
+    pub fn choose(&mut self, file: &[u8], ask: &Ask) -> Result<(), String> {
+        let (group, key, locale) = (&ask.group[..], &ask.plain[..], &ask.locale[..]);
+        let expected = reference::choose(file, group, key, locale).map_err(refusal);
+        self.count("choose", &expected);
+        let lent = [file, group, key, locale].map(|bytes| self.lend(bytes));
+        let mut numbers = Numbers::new();
+        let (place, from, to) = numbers.pointers();
+        // SAFETY: the bytes and the numbers outlive the call.
+        let result = unsafe {
+            ffi::kveldrim_choose(
+                lent[0].pointer(),
+                lent[0].len(),
+                lent[1].pointer(),
+                lent[1].len(),
+                lent[2].pointer(),
+                lent[2].len(),
+                lent[3].pointer(),
+                lent[3].len(),
+                place,
+                from,
+                to,
+            )
+        };
+        let outcome = numbers
+            .tell(result, &ends(expected))
+            .and_then(|()| lent[0].holds(file))
+            .and_then(|()| lent[1].holds(group))
+            .and_then(|()| lent[2].holds(key))
+            .and_then(|()| lent[3].holds(locale))
+            .and_then(|()| part(file, kveldrim::choose(file, group, key, locale), expected));
+        named("choose", &[group, key, locale], outcome)
+    }
+
+    pub fn read_text(&mut self, raw: &[u8]) -> Result<(), String> {
+        let whole = reference::text::unescape(raw).map_err(refusal);
+        let length = whole.as_ref().map_or(raw.len(), Vec::len);
+        let outcome = self
+            .output_calls(
+                "read_text",
+                raw,
+                length,
+                ffi::kveldrim_read_text,
+                reference::read_text,
+            )
+            .and_then(|()| bound(kveldrim::read_text_vec(raw), whole));
+        named("read_text", &[], outcome)
+    }
+
+    pub fn write_text(&mut self, text: &[u8]) -> Result<(), String> {
+        let whole = reference::text::escape(text).map_err(refusal);
+        let length = whole.as_ref().map_or(text.len(), Vec::len);
+        let outcome = self
+            .output_calls(
+                "write_text",
+                text,
+                length,
+                ffi::kveldrim_write_text,
+                reference::write_text,
+            )
+            .and_then(|()| bound(kveldrim::write_text_vec(text), whole));
+        named("write_text", &[], outcome)
+    }
+
+    pub fn read_list(&mut self, raw: &[u8]) -> Result<(), String> {
+        let whole = reference::text::split_list(raw).map_err(refusal);
+        let length = whole.as_ref().map_or(raw.len(), |elements| {
+            elements.iter().map(|element| 6 + element.len()).sum()
+        });
+        let outcome = self
+            .output_calls(
+                "read_list",
+                raw,
+                length,
+                ffi::kveldrim_read_list,
+                reference::read_list,
+            )
+            .and_then(|()| bound(kveldrim::read_list_vec(raw), whole));
+        named("read_list", &[], outcome)
+    }
+
+    /// A call with an output, which is lent in several sizes: none, some, one byte too few, just enough, more.
+    fn output_calls(
+        &mut self,
+        name: &'static str,
+        input: &[u8],
+        length: usize,
+        call: ffi::OutputCall,
+        reference: fn(&[u8], &mut [u8]) -> Result<usize, reference::Refusal>,
+    ) -> Result<(), String> {
+        let some = self.random.below(length + 1);
+        let more = length + self.random.within(1, 40);
+        let mut sizes = vec![0, some, length.saturating_sub(1), length, more];
+        sizes.dedup();
+        for size in sizes {
+            let lent = self.lend(input);
+            let mut out = Lent::output(size, &mut self.random);
+            let mut expected_out = out.bytes().to_vec();
+            let expected = reference(input, &mut expected_out).map_err(refusal);
+            self.count(name, &expected);
+            let mut numbers = Numbers::new();
+            let (place, written, _) = numbers.pointers();
+            // SAFETY: the bytes and the numbers outlive the call.
+            let result = unsafe {
+                call(
+                    lent.pointer(),
+                    lent.len(),
+                    out.pointer_mut(),
+                    out.len(),
+                    place,
+                    written,
+                )
+            };
+            numbers
+                .tell(result, &expected.map(|written| vec![written as u64]))
+                .and_then(|()| lent.holds(input))
+                .and_then(|()| out.holds(&expected_out))
+                .map_err(|difference| format!("with room for {size} bytes\n{difference}"))?;
+        }
+        Ok(())
+    }
+}

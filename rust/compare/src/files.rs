@@ -1,0 +1,466 @@
+//! Whole files: well formed ones, ones with a single fault, long ones, and what is asked of them.
+
+use reference::lines::{read_line, split_lines, Line};
+
+use crate::calls::{Ask, Case};
+use crate::pieces::{self, BORDERS, KEY_BYTES, MULLER};
+use crate::random::Random;
+
+const HEADER: &[u8] = b"[Desktop Entry]\n";
+
+/// "A file is at most 32,768 bytes."
+const BOUND: usize = 32_768;
+
+/// An entry's line, with spaces around `=` now and then.
+fn entry(key: &[u8], postfix: Option<&[u8]>, value: &[u8], random: &mut Random) -> Vec<u8> {
+    let mut line = key.to_vec();
+    if let Some(postfix) = postfix {
+        line.push(b'[');
+        line.extend(postfix);
+        line.push(b']');
+    }
+    let spaces = if random.once_in(6) { 2 } else { 0 };
+    line.extend(vec![b' '; random.within(0, spaces)]);
+    line.push(b'=');
+    line.extend(vec![b' '; random.within(0, spaces)]);
+    line.extend(value);
+    line.push(b'\n');
+    line
+}
+
+/// Blank lines and comments, which may hold anything.
+fn filler(random: &mut Random) -> Vec<u8> {
+    let mut line = match random.below(3) {
+        0 => Vec::new(),
+        1 => b" \t  "[..random.within(1, 4)].to_vec(),
+        _ => [b"#", &pieces::wild(random, 6)[..]].concat(),
+    };
+    line.retain(|byte| *byte != b'\n');
+    line.push(b'\n');
+    line
+}
+
+/// A well-formed file: groups and keys once each, plain keys before or after their postfixed ones.
+pub fn sound(random: &mut Random, groups: usize, keys: usize) -> Vec<u8> {
+    let mut file = Vec::new();
+    let mut names: Vec<Vec<u8>> = vec![b"Desktop Entry".to_vec()];
+    for _ in 1..random.within(1, groups) {
+        names.push(pieces::group(random));
+    }
+    once_each(&mut names);
+    for name in names {
+        if random.once_in(6) {
+            file.extend(filler(random));
+        }
+        file.extend([b"[", &name[..], b"]\n"].concat());
+        let mut plain: Vec<Vec<u8>> = (0..random.within(0, keys))
+            .map(|_| pieces::key(random))
+            .collect();
+        once_each(&mut plain);
+        let mut lines = Vec::new();
+        for key in plain {
+            let value = fitting_value(&key, random);
+            lines.push(entry(&key, None, &value, random));
+            if random.once_in(3) {
+                let mut postfixes: Vec<Vec<u8>> = (0..random.within(1, 5))
+                    .map(|_| pieces::locale(random))
+                    .collect();
+                once_each(&mut postfixes);
+                for postfix in postfixes {
+                    let value = pieces::value(random, pieces::SOUND);
+                    lines.push(entry(&key, Some(&postfix), &value, random));
+                }
+            }
+            if random.once_in(12) {
+                lines.push(filler(random));
+            }
+        }
+        if random.once_in(2) {
+            random.shuffle(&mut lines);
+        }
+        file.extend(lines.concat());
+    }
+    if random.once_in(4) {
+        file.pop();
+    }
+    file
+}
+
+/// A value that completeness accepts for the key, mostly.
+fn fitting_value(key: &[u8], random: &mut Random) -> Vec<u8> {
+    if random.once_in(10) {
+        return random
+            .pick(&["True", "true ", "", "link", "Links", "1"])
+            .into();
+    }
+    match key {
+        b"Type" => random.pick(&["Application", "Link", "Directory"]).into(),
+        b"NoDisplay" | b"Hidden" | b"DBusActivatable" | b"Terminal" | b"StartupNotify" => {
+            random.pick(&["true", "false"]).into()
+        }
+        _ => pieces::value(random, pieces::SOUND),
+    }
+}
+
+/// Each item once, where it stands first.
+fn once_each(items: &mut Vec<Vec<u8>>) {
+    let mut seen = Vec::new();
+    items.retain(|item| {
+        let fresh = !seen.contains(item);
+        seen.push(item.clone());
+        fresh
+    });
+}
+
+/// A file of lines of every kind, in any order.
+pub fn lines(random: &mut Random) -> Vec<u8> {
+    let mut file = Vec::new();
+    if !random.once_in(8) {
+        file.extend(HEADER);
+    }
+    for _ in 0..random.within(0, 4) {
+        file.extend(line(random));
+    }
+    if random.once_in(3) {
+        file.pop();
+    }
+    file
+}
+
+/// A line, often with something wrong in it.
+fn line(random: &mut Random) -> Vec<u8> {
+    let mut line = match random.below(10) {
+        0 => filler(random),
+        1 => [b"[", &pieces::group(random)[..], b"]\n"].concat(),
+        2 => [&pieces::wild(random, 20)[..], b"\n"].concat(),
+        _ => {
+            let key = pieces::key(random);
+            let postfix = match random.below(4) {
+                0 => Some(pieces::locale(random)),
+                1 => Some(pieces::wrong_locale(random)),
+                _ => None,
+            };
+            let value = pieces::value(random, 8);
+            entry(&key, postfix.as_deref(), &value, random)
+        }
+    };
+    if random.once_in(3) {
+        let at = random.below(line.len());
+        match random.below(3) {
+            0 => line[at] = random.byte_of(BORDERS),
+            1 => line.insert(at, random.byte_of(BORDERS)),
+            _ => drop(line.remove(at)),
+        }
+    }
+    line
+}
+
+/// Changes one thing in a file.
+pub fn spoil(file: &mut Vec<u8>, random: &mut Random) {
+    if file.is_empty() {
+        return;
+    }
+    let at = random.below(file.len());
+    let lines: Vec<Vec<u8>> = file
+        .split_inclusive(|byte| *byte == b'\n')
+        .map(<[u8]>::to_vec)
+        .collect();
+    let one = random.below(lines.len());
+    let other = random.below(lines.len());
+    let feeds: Vec<usize> = (0..file.len()).filter(|at| file[*at] == b'\n').collect();
+    let put_line = |line: &[u8], before: usize| {
+        let mut lines = lines.clone();
+        lines.insert(before, line.to_vec());
+        lines.concat()
+    };
+    match random.below(14) {
+        0 => file[at] = random.byte_of(BORDERS),
+        1 => file[at] = random.number() as u8,
+        2 => file.insert(at, random.byte_of(BORDERS)),
+        3 => drop(file.remove(at)),
+        4 => *file = put_line(&lines[one], other),
+        5 => *file = put_line(&lines[one], lines.len()),
+        6 => {
+            let mut rest = lines.clone();
+            rest.remove(one);
+            *file = rest.concat();
+        }
+        7 => {
+            let mut rest = lines.clone();
+            rest.swap(one, other);
+            *file = rest.concat();
+        }
+        8 if !feeds.is_empty() => drop(file.remove(feeds[random.below(feeds.len())])),
+        9 if !feeds.is_empty() => file.insert(feeds[random.below(feeds.len())], b'\r'),
+        10 => file.truncate(at),
+        11 => {
+            let piece = pieces::value(random, 2);
+            file.splice(at..at, piece);
+        }
+        12 => {
+            let line = line(random);
+            *file = put_line(&line, other);
+        }
+        _ => drop(file.splice(0..0, "\u{FEFF}".bytes())),
+    }
+}
+
+/// A file with what completeness asks for, each thing nearly right.
+pub fn nearly_complete(random: &mut Random) -> Vec<u8> {
+    let mut lines = Vec::new();
+    for (key, missing) in [
+        ("Type", 12),
+        ("Name", 12),
+        ("Exec", 2),
+        ("URL", 2),
+        ("NoDisplay", 2),
+        ("Hidden", 2),
+        ("DBusActivatable", 2),
+        ("Terminal", 2),
+        ("StartupNotify", 2),
+    ] {
+        if random.once_in(missing) {
+            continue;
+        }
+        let value = fitting_value(key.as_bytes(), random);
+        lines.push(entry(key.as_bytes(), None, &value, random));
+        if random.once_in(8) {
+            let value = pieces::value(random, pieces::SOUND);
+            lines.push(entry(key.as_bytes(), Some(b"de"), &value, random));
+        }
+    }
+    random.shuffle(&mut lines);
+    if random.once_in(4) {
+        let other = "[X]\nType=Link\nURL=u\nName=n\nHidden=no\nExec=e\n";
+        lines.push(other.into());
+    }
+    [HEADER, &lines.concat()].concat()
+}
+
+/// A file with the key Name in many languages.
+pub fn many_languages(random: &mut Random) -> Vec<u8> {
+    let mut postfixes: Vec<Vec<u8>> = (0..random.within(0, 12))
+        .map(|_| pieces::locale(random))
+        .collect();
+    once_each(&mut postfixes);
+    let mut lines = vec![entry(
+        b"Name",
+        None,
+        MULLER[random.below(2)].as_bytes(),
+        random,
+    )];
+    for postfix in postfixes {
+        let key: &[u8] = if random.once_in(9) { b"Names" } else { b"Name" };
+        lines.push(entry(key, Some(&postfix), &postfix, random));
+        if key == b"Names" {
+            lines.push(b"Names=n\n".to_vec());
+        }
+    }
+    once_each(&mut lines);
+    random.shuffle(&mut lines);
+    [HEADER, &lines.concat()].concat()
+}
+
+/// How the names of a long file differ from each other.
+#[derive(Clone, Copy)]
+enum Names {
+    Short,
+    Groups,
+    SameEnds,
+    Anagrams,
+    Postfixes,
+}
+
+/// A long file with very many names; one of them may stand twice, far apart, or a plain key may be missing.
+pub fn many_names(random: &mut Random, most: usize) -> Vec<u8> {
+    let length = random.within(most / 4, most);
+    let kinds = [
+        Names::Short,
+        Names::Groups,
+        Names::SameEnds,
+        Names::Anagrams,
+        Names::Postfixes,
+    ];
+    let kind = kinds[random.below(kinds.len())];
+    let mut lines = Vec::new();
+    let mut used = HEADER.len();
+    for number in 0.. {
+        let line = numbered(kind, number);
+        if used + line.len() > length {
+            break;
+        }
+        used += line.len();
+        lines.push(line);
+    }
+    if lines.is_empty() {
+        return HEADER.to_vec();
+    }
+    if random.once_in(2) {
+        random.shuffle(&mut lines);
+    }
+    let (one, other) = (random.below(lines.len()), random.below(lines.len()));
+    match random.below(5) {
+        0 => lines[other] = lines[one].clone(),
+        1 => lines.insert(other, lines[one].clone()),
+        2 => drop(lines.remove(one)),
+        3 => lines.insert(other, b"[Other group]\n".to_vec()),
+        _ => {}
+    }
+    [HEADER, &lines.concat()].concat()
+}
+
+/// The number-th line of its kind; all of a kind differ.
+fn numbered(kind: Names, number: usize) -> Vec<u8> {
+    match kind {
+        Names::Short => [&counted(number)[..], b"=\n"].concat(),
+        Names::Groups => [b"[", &counted(number)[..], b"]\n"].concat(),
+        // Long keys that share their first, middle and last bytes.
+        Names::SameEnds => {
+            let name = format!("Shared-start{number:04}shared-middle{number:04}shared-end=\n");
+            name.into()
+        }
+        // The same letters in another order.
+        Names::Anagrams => {
+            let mut left = b"abcdefgh".to_vec();
+            let mut rest = number;
+            let mut name = Vec::new();
+            while !left.is_empty() {
+                name.push(left.remove(rest % left.len()));
+                rest /= left.len() + 1;
+            }
+            name.extend(counted(rest));
+            name.extend(b"=\n");
+            name
+        }
+        // Keys and postfixes with the same bytes, parted at another place; each ninth key is plain.
+        Names::Postfixes => {
+            let (key, postfix) = (number / 9, number % 9);
+            let name = counted(key);
+            match postfix {
+                0 => [&name[..], b"=\n"].concat(),
+                _ => [&name[..], b"[", &b"abcdefgh"[..postfix], b"]=\n"].concat(),
+            }
+        }
+    }
+}
+
+/// A number as the shortest key: all of one byte, then all of two, and so on.
+pub fn counted(number: usize) -> Vec<u8> {
+    let mut name = Vec::new();
+    let mut rest = number + 1;
+    while rest > 0 {
+        rest -= 1;
+        name.push(KEY_BYTES[rest % KEY_BYTES.len()]);
+        rest /= KEY_BYTES.len();
+    }
+    name
+}
+
+/// A file whose length is at the bound or close to it, with few lines.
+pub fn near_bound(random: &mut Random) -> Vec<u8> {
+    let mut file = sound(random, 3, 8);
+    if file.last() != Some(&b'\n') {
+        file.push(b'\n');
+    }
+    let length = match random.below(8) {
+        0 => BOUND + random.within(1, 3_000),
+        1 => BOUND - random.within(0, 3_000),
+        _ => BOUND - 3 + random.below(7),
+    };
+    let fill = length.saturating_sub(file.len() + 2);
+    match random.below(3) {
+        0 => file.extend([b"#", &vec![b'c'; fill][..], b"\n"].concat()),
+        1 => file.extend([b"L=", &vec![b'v'; fill][..]].concat()),
+        _ => file.extend(vec![b'\n'; fill + 2]),
+    }
+    if random.once_in(2) {
+        spoil(&mut file, random);
+    }
+    file
+}
+
+/// A long text or list: runs of a byte, letters and escapes, one after another.
+pub fn long_text(random: &mut Random) -> Vec<u8> {
+    let length = random.within(500, 40_000);
+    let list = random.once_in(2);
+    let mut text = Vec::new();
+    while text.len() < length {
+        match random.below(3) {
+            0 => text.extend(vec![random.byte_of(b"a; \n\t"); random.within(1, 300)]),
+            1 if list => text.extend(b"\\;x\\s;;\\\\;"),
+            1 => text.extend(b"\\s\\n\\t\\r\\\\"),
+            _ => text.extend(pieces::letters(random)),
+        }
+    }
+    if random.once_in(2) {
+        let at = random.below(text.len());
+        text[at] = random.byte_of(BORDERS);
+    }
+    text
+}
+
+/// A question: the file, and names in it to look up and choose.
+pub fn asked(file: Vec<u8>, asks: usize, random: &mut Random) -> Case {
+    let asks = (0..asks).map(|_| ask(&file, random)).collect();
+    Case::File { file, asks }
+}
+
+/// A group and a key that stand in the file, mostly.
+fn ask(file: &[u8], random: &mut Random) -> Ask {
+    let lines = split_lines(file);
+    let mut group = b"Desktop Entry".to_vec();
+    let mut key = pieces::key(random);
+    if !lines.is_empty() {
+        let mut at = random.below(lines.len());
+        let (start, end) = lines[at];
+        let line = &file[start..end];
+        if let Line::Entry {
+            key: found,
+            postfix,
+            ..
+        } = read_line(line)
+        {
+            let postfix = postfix.filter(|_| !random.once_in(4));
+            key = line[found.0..postfix.map_or(found.1, |postfix| postfix.1 + 1)].to_vec();
+        }
+        loop {
+            let line = &file[lines[at].0..lines[at].1];
+            if let Line::Header { name } = read_line(line) {
+                group = line[name.0..name.1].to_vec();
+                break;
+            }
+            if at == 0 {
+                break;
+            }
+            at -= 1;
+        }
+    }
+    match random.below(40) {
+        0 => group = pieces::group(random),
+        1 => group = pieces::wild(random, 4),
+        2 => key = pieces::wild(random, 5),
+        3 => key.push(random.byte_of(BORDERS)),
+        4 => key.insert(0, random.byte_of(BORDERS)),
+        5 => key = pieces::key(random),
+        6 => group.push(random.byte_of(BORDERS)),
+        7 | 8 => key.extend([b"[", &pieces::locale(random)[..], b"]"].concat()),
+        9 => key.extend([b"[", &pieces::wrong_locale(random)[..], b"]"].concat()),
+        _ => {}
+    }
+    let locale = match random.below(10) {
+        0 => Vec::new(),
+        1 => pieces::wrong_locale(random),
+        _ => pieces::locale(random),
+    };
+    let mut plain = key.clone();
+    if !random.once_in(8) {
+        let postfix = plain.iter().position(|byte| *byte == b'[');
+        plain.truncate(postfix.unwrap_or(plain.len()));
+    }
+    Ask {
+        group,
+        key,
+        plain,
+        locale,
+    }
+}

@@ -1,0 +1,146 @@
+//! What is lent to a call: bytes and numbers with guards on both sides, so that a stray write shows.
+
+use crate::random::Random;
+
+/// Guard bytes that would go on with whatever stands beside them, so that reading too far changes an answer.
+const GUARD: &[u8] = b"\\s;a]=\n\xBFb[de]=x\n\x80_A.B@C]=\n#\\;\\\\ =t\n\xBF\x80[Z]\nName=1\n\\n;]";
+
+/// Bytes in the middle of a larger allocation.
+pub struct Lent {
+    whole: Vec<u8>,
+    start: usize,
+    end: usize,
+    /// Where the pointer of an empty slice points: "an empty slice may have any pointer".
+    nowhere: Option<usize>,
+}
+
+impl Lent {
+    pub fn new(bytes: &[u8], random: &mut Random) -> Lent {
+        let left = &GUARD[..random.within(16, GUARD.len())];
+        let right = &GUARD[random.below(GUARD.len() - 16)..];
+        let whole = [left, bytes, right].concat();
+        let nowhere = match random.below(4) {
+            0 => None,
+            1 => Some(0),
+            2 => Some(1),
+            _ => Some(usize::MAX),
+        };
+        Lent {
+            start: left.len(),
+            end: left.len() + bytes.len(),
+            whole,
+            nowhere,
+        }
+    }
+
+    /// An output with a pattern in it that no call writes by chance.
+    pub fn output(length: usize, random: &mut Random) -> Lent {
+        let first = random.below(256);
+        let pattern: Vec<u8> = (0..length).map(|at| (first + at * 167) as u8).collect();
+        Lent::new(&pattern, random)
+    }
+
+    pub fn bytes(&self) -> &[u8] {
+        &self.whole[self.start..self.end]
+    }
+
+    pub fn len(&self) -> usize {
+        self.end - self.start
+    }
+
+    pub fn is_empty(&self) -> bool {
+        self.start == self.end
+    }
+
+    pub fn pointer(&self) -> *const u8 {
+        match self.nowhere {
+            Some(address) if self.is_empty() => address as *const u8,
+            _ => self.bytes().as_ptr(),
+        }
+    }
+
+    pub fn pointer_mut(&mut self) -> *mut u8 {
+        match self.nowhere {
+            Some(address) if self.is_empty() => address as *mut u8,
+            _ => self.whole[self.start..self.end].as_mut_ptr(),
+        }
+    }
+
+    /// Whether the bytes are these and the guards are as they were.
+    pub fn holds(&self, expected: &[u8]) -> Result<(), String> {
+        let right = &GUARD[GUARD.len() - (self.whole.len() - self.end)..];
+        if self.whole[..self.start] != GUARD[..self.start] {
+            return Err("bytes before the buffer were written".into());
+        }
+        if &self.whole[self.end..] != right {
+            return Err("bytes after the buffer were written".into());
+        }
+        if self.bytes() != expected {
+            let found = self.bytes().escape_ascii();
+            let expected = expected.escape_ascii();
+            return Err(format!(
+                "the buffer holds   {found}\nbut should hold    {expected}"
+            ));
+        }
+        Ok(())
+    }
+}
+
+/// The numbers that a call writes: its place and up to two more, with guards between them.
+pub struct Numbers([u64; 7]);
+
+/// What every number is before the call.
+const BEFORE: u64 = 0xA5C3_9669_3CA5_5A0F;
+
+impl Numbers {
+    pub fn new() -> Numbers {
+        Numbers([BEFORE; 7])
+    }
+
+    /// Pointers to the place and the two further numbers.
+    pub fn pointers(&mut self) -> (*mut u64, *mut u64, *mut u64) {
+        let start = self.0.as_mut_ptr();
+        (
+            start.wrapping_add(1),
+            start.wrapping_add(3),
+            start.wrapping_add(5),
+        )
+    }
+
+    /// Whether the call told this: the numbers of its answer, or a refusal's number and place.
+    pub fn tell(&self, result: u32, expected: &Result<Vec<u64>, (u32, u64)>) -> Result<(), String> {
+        let mut cells = [BEFORE; 7];
+        let mut number = 0;
+        match expected {
+            Ok(answer) => {
+                cells[1] = 0;
+                for (at, one) in answer.iter().enumerate() {
+                    cells[3 + 2 * at] = *one;
+                }
+            }
+            Err(refusal) => (number, cells[1]) = *refusal,
+        }
+        if result == number && self.0 == cells {
+            return Ok(());
+        }
+        let show = |cell: u64| match cell {
+            BEFORE => "not written".to_string(),
+            cell => cell.to_string(),
+        };
+        let shown = |result: u32, cells: &[u64; 7]| {
+            let [before, place, .., after] = cells.map(show);
+            let (first, second) = (show(cells[3]), show(cells[5]));
+            format!("result {result}, place {place}, numbers {first} and {second}, guards {before} and {after}")
+        };
+        let (found, expected) = (shown(result, &self.0), shown(number, &cells));
+        Err(format!(
+            "the library tells  {found}\nthe reference      {expected}"
+        ))
+    }
+}
+
+impl Default for Numbers {
+    fn default() -> Numbers {
+        Numbers::new()
+    }
+}

@@ -1,0 +1,9 @@
+//! Compares the proved library with `reference`, the second implementation: the same questions, the same answers, byte
+//! for byte. `tests/` says which questions are asked and how many; this is what those tests share.
+
+pub mod calls;
+pub mod files;
+pub mod lent;
+pub mod pieces;
+pub mod random;
+pub mod run;

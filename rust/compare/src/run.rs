@@ -1,0 +1,114 @@
+//! Runs the cases of a test: each from a seed of its own, told on a failure together with a small input.
+//!
+//! KVELDRIM_SEED=n runs other cases, KVELDRIM_REPLAY=n only the case of that seed, KVELDRIM_TRACE=1 tells each seed before
+//! its case runs (for a crash that kills the process).
+
+use std::env;
+
+use crate::calls::{Asker, Case, Tally};
+use crate::random::{mix, Random};
+
+/// Compares `cases` cases that `make` makes, and panics at the first difference. Each of the named outcomes (a call and
+/// its number, 0 for an answer) must come up, so that a test cannot grow empty unseen.
+pub fn run(
+    test: &str,
+    cases: u64,
+    outcomes: &[(&'static str, &[u32])],
+    make: impl Fn(&mut Random) -> Case,
+) {
+    let mut asker = Asker::new(0);
+    if let Some(seed) = number("KVELDRIM_REPLAY") {
+        return one(test, seed, &make, &mut asker);
+    }
+    let base = number("KVELDRIM_SEED").unwrap_or(1);
+    let family = test.bytes().fold(base, |sum, byte| mix(sum, byte.into()));
+    for case in 0..cases {
+        one(test, mix(family, case), &make, &mut asker);
+    }
+    println!("{test}: {cases} inputs, {}", words(&asker.tally));
+    for (call, numbers) in outcomes {
+        for number in *numbers {
+            let found = asker.tally.contains_key(&(*call, *number));
+            assert!(found, "{test}: {call} never gave {number}");
+        }
+    }
+}
+
+/// A number from the environment.
+fn number(name: &str) -> Option<u64> {
+    let value = env::var(name).ok()?;
+    Some(value.parse().expect("a decimal number"))
+}
+
+fn words(tally: &Tally) -> String {
+    let calls: u64 = tally.values().sum();
+    let mut words = format!("{calls} calls");
+    let mut last = "";
+    for ((call, number), times) in tally {
+        if *call != last {
+            words += &format!("; {call}");
+            last = call;
+        }
+        words += &format!(" {number}:{times}");
+    }
+    words
+}
+
+/// Tells the seed if the case panics, wherever that happens.
+struct Seed<'a>(&'a str, u64);
+
+impl Drop for Seed<'_> {
+    fn drop(&mut self) {
+        if std::thread::panicking() {
+            let Seed(test, seed) = self;
+            eprintln!("replay: KVELDRIM_REPLAY={seed} cargo test -p kveldrim-compare {test}");
+        }
+    }
+}
+
+fn one(test: &str, seed: u64, make: impl Fn(&mut Random) -> Case, asker: &mut Asker) {
+    let _told_on_panic = Seed(test, seed);
+    if env::var_os("KVELDRIM_TRACE").is_some() {
+        eprintln!("{test}: seed {seed}");
+    }
+    let case = make(&mut Random::new(seed));
+    asker.start(seed);
+    if let Err(difference) = case.compare(asker) {
+        let seed_words = format!("{test}, seed {seed}");
+        panic!("{seed_words}: {}", smallest(seed, case, difference));
+    }
+}
+
+/// A difference, with an input as small as can be found quickly.
+pub fn smallest(seed: u64, case: Case, mut difference: String) -> String {
+    let small = shrink(case, |case| match case.compare(&mut Asker::new(seed)) {
+        Ok(()) => false,
+        Err(other) => {
+            difference = other;
+            true
+        }
+    });
+    let input = small.bytes().escape_ascii();
+    format!("{difference}\ninput: \"{input}\"")
+}
+
+/// Leaves out parts of the input, large ones first, as long as the case still fails.
+fn shrink(mut case: Case, mut fails: impl FnMut(&Case) -> bool) -> Case {
+    let mut tries = 3_000;
+    let mut size = case.bytes().len();
+    while size > 0 {
+        let mut at = 0;
+        while at + size <= case.bytes().len() && tries > 0 {
+            tries -= 1;
+            let bytes = case.bytes();
+            let smaller = case.about([&bytes[..at], &bytes[at + size..]].concat());
+            if fails(&smaller) {
+                case = smaller;
+            } else {
+                at += size;
+            }
+        }
+        size /= 2;
+    }
+    case
+}

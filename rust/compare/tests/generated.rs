@@ -1,0 +1,169 @@
+//! Generated questions, seeded: the library and the reference must agree on every one. See `compare::run` for replaying.
+
+use compare::calls::{Asker, Case};
+use compare::files;
+use compare::pieces::{self, UTF8_BORDERS};
+use compare::run::run;
+
+const SOUND: u64 = 60_000;
+const SPOILT: u64 = 120_000;
+const LINES: u64 = 80_000;
+const WILD: u64 = 40_000;
+const COMPLETE: u64 = 40_000;
+const LANGUAGES: u64 = 40_000;
+const TEXTS: u64 = 120_000;
+const LONGER: u64 = 1_500;
+const HUNDREDS: u64 = 1_500;
+const THOUSANDS: u64 = 120;
+const NEAR_BOUND: u64 = 400;
+const LONG_TEXTS: u64 = 300;
+
+const _: () = assert!(SOUND + SPOILT + LINES + WILD + COMPLETE + LANGUAGES + TEXTS >= 200_000);
+
+const OUTPUTS: &[(&str, &[u32])] = &[
+    ("read_text", &[0, 9, 11]),
+    ("write_text", &[0, 10, 11]),
+    ("read_list", &[0, 9, 11]),
+];
+
+#[test]
+fn sound_files() {
+    let outcomes: &[(_, &[u32])] = &[
+        ("check", &[0]),
+        ("complete", &[0, 18]),
+        ("lookup", &[0, 7, 8]),
+        ("choose", &[0, 7, 8]),
+    ];
+    run("sound_files", SOUND, outcomes, |random| {
+        let file = files::sound(random, 4, 6);
+        files::asked(file, 3, random)
+    });
+}
+
+#[test]
+fn spoilt_files() {
+    let outcomes: &[(_, &[u32])] = &[
+        ("check", &[0, 2, 3, 4, 5, 6]),
+        ("complete", &[0, 2, 3, 4, 5, 6, 18]),
+        ("lookup", &[0, 2, 3, 4, 5, 6, 7, 8]),
+        ("choose", &[0, 2, 3, 4, 5, 6, 7, 8]),
+    ];
+    run("spoilt_files", SPOILT, outcomes, |random| {
+        let mut file = files::sound(random, 4, 5);
+        for _ in 0..random.within(1, 2) {
+            files::spoil(&mut file, random);
+        }
+        files::asked(file, 2, random)
+    });
+}
+
+#[test]
+fn lines_of_all_kinds() {
+    let outcomes: &[(_, &[u32])] = &[("check", &[0, 2, 3, 4, 5, 6])];
+    run("lines_of_all_kinds", LINES, outcomes, |random| {
+        let file = files::lines(random);
+        files::asked(file, 1, random)
+    });
+}
+
+#[test]
+fn wild_files() {
+    let outcomes: &[(_, &[u32])] = &[("check", &[0, 2, 3])];
+    run("wild_files", WILD, outcomes, |random| {
+        let mut file = pieces::wild(random, 60);
+        if random.once_in(2) {
+            file.splice(0..0, *b"[Desktop Entry]\n");
+        }
+        files::asked(file, 1, random)
+    });
+}
+
+#[test]
+fn nearly_complete_files() {
+    let outcomes: &[(_, &[u32])] = &[("complete", &[0, 2, 3, 5, 6, 18])];
+    run("nearly_complete_files", COMPLETE, outcomes, |random| {
+        let mut file = files::nearly_complete(random);
+        if random.once_in(4) {
+            files::spoil(&mut file, random);
+        }
+        files::asked(file, 1, random)
+    });
+}
+
+#[test]
+fn languages() {
+    let outcomes: &[(_, &[u32])] = &[("lookup", &[0, 7, 8]), ("choose", &[0, 7, 8])];
+    run("languages", LANGUAGES, outcomes, |random| {
+        let file = files::many_languages(random);
+        files::asked(file, 4, random)
+    });
+}
+
+#[test]
+fn longer_files() {
+    let outcomes: &[(_, &[u32])] = &[("check", &[0, 2, 4, 5, 6]), ("lookup", &[0, 8])];
+    run("longer_files", LONGER, outcomes, |random| {
+        let mut file = files::sound(random, 30, 40);
+        if random.once_in(2) {
+            files::spoil(&mut file, random);
+        }
+        files::asked(file, 2, random)
+    });
+}
+
+#[test]
+fn hundreds_of_names() {
+    let outcomes: &[(_, &[u32])] = &[("check", &[0, 4, 5, 6]), ("lookup", &[0, 8])];
+    run("hundreds_of_names", HUNDREDS, outcomes, |random| {
+        let file = files::many_names(random, 4_000);
+        files::asked(file, 2, random)
+    });
+}
+
+#[test]
+fn thousands_of_names() {
+    let outcomes: &[(_, &[u32])] = &[("check", &[0, 4, 5, 6]), ("lookup", &[0])];
+    run("thousands_of_names", THOUSANDS, outcomes, |random| {
+        let file = files::many_names(random, 32_768);
+        files::asked(file, 1, random)
+    });
+}
+
+#[test]
+fn files_near_the_bound() {
+    let outcomes: &[(_, &[u32])] = &[("check", &[0, 1, 2]), ("lookup", &[0, 1])];
+    run("files_near_the_bound", NEAR_BOUND, outcomes, |random| {
+        let file = files::near_bound(random);
+        files::asked(file, 2, random)
+    });
+}
+
+#[test]
+fn texts() {
+    run("texts", TEXTS, OUTPUTS, |random| {
+        Case::Text(pieces::text(random))
+    });
+}
+
+#[test]
+fn long_texts() {
+    run("long_texts", LONG_TEXTS, OUTPUTS, |random| {
+        Case::Text(files::long_text(random))
+    });
+}
+
+/// Every four bytes of those that decide what UTF-8 is: as text, and as the value of an entry.
+#[test]
+fn utf8_borders() {
+    let mut asker = Asker::new(1);
+    let kinds = UTF8_BORDERS.len();
+    for number in 0..kinds.pow(4) {
+        let at = |power| UTF8_BORDERS[number / kinds.pow(power) % kinds];
+        let bytes = [at(0), at(1), at(2), at(3)];
+        let file = [b"[Desktop Entry]\nk=", &bytes[..]].concat();
+        let compared = asker.write_text(&bytes).and_then(|()| asker.check(&file));
+        if let Err(difference) = compared {
+            panic!("{}: {difference}", bytes.escape_ascii());
+        }
+    }
+}

@@ -1,0 +1,67 @@
+//! The C interface, as `include/kveldrim.h` declares it. The safe functions of this crate stand over it.
+//!
+//! Every call: the result is the refusal's number, 0 if accepted; `place` is always written, each other number only if
+//! accepted; no lent byte changes on a refusal. An empty slice may have any pointer.
+
+/// A call that reads bytes and writes others: input, its length, output, its length, place, bytes written.
+pub type OutputCall =
+    unsafe extern "C" fn(*const u8, usize, *mut u8, usize, *mut u64, *mut u64) -> u32;
+
+extern "C" {
+    pub fn kveldrim_check(file: *const u8, file_len: usize, place: *mut u64) -> u32;
+
+    pub fn kveldrim_complete(file: *const u8, file_len: usize, place: *mut u64) -> u32;
+
+    pub fn kveldrim_lookup(
+        file: *const u8,
+        file_len: usize,
+        group: *const u8,
+        group_len: usize,
+        key: *const u8,
+        key_len: usize,
+        place: *mut u64,
+        from: *mut u64,
+        to: *mut u64,
+    ) -> u32;
+
+    pub fn kveldrim_choose(
+        file: *const u8,
+        file_len: usize,
+        group: *const u8,
+        group_len: usize,
+        key: *const u8,
+        key_len: usize,
+        locale: *const u8,
+        locale_len: usize,
+        place: *mut u64,
+        from: *mut u64,
+        to: *mut u64,
+    ) -> u32;
+
+    pub fn kveldrim_read_text(
+        raw: *const u8,
+        raw_len: usize,
+        out: *mut u8,
+        out_len: usize,
+        place: *mut u64,
+        written: *mut u64,
+    ) -> u32;
+
+    pub fn kveldrim_write_text(
+        text: *const u8,
+        text_len: usize,
+        out: *mut u8,
+        out_len: usize,
+        place: *mut u64,
+        written: *mut u64,
+    ) -> u32;
+
+    pub fn kveldrim_read_list(
+        raw: *const u8,
+        raw_len: usize,
+        out: *mut u8,
+        out_len: usize,
+        place: *mut u64,
+        written: *mut u64,
+    ) -> u32;
+}

@@ -1,0 +1,208 @@
+//! Safe bindings over Kveldrim, the proved core for `.desktop` files (Desktop Entry Specification 1.5).
+//!
+//! A file is a slice of bytes; nothing is kept between calls. Every call gives its answer or a [`Refusal`], and a
+//! refusal changes no byte of an output.
+//!
+//! ```
+//! let file = b"[Desktop Entry]\nType=Application\nName=Read\nName[fr]=Lire\nExec=view %F\n";
+//! assert_eq!(kveldrim::check(file), Ok(()));
+//! assert_eq!(kveldrim::choose(file, kveldrim::DESKTOP_ENTRY, b"Name", b"fr_CA.UTF-8"), Ok(&b"Lire"[..]));
+//! let refusal = kveldrim::check(b"[Desktop Entry]\nName\n").unwrap_err();
+//! assert_eq!((refusal.number, refusal.place), (2, 2));
+//! ```
+
+pub mod ffi;
+mod refusal;
+
+use std::ops::Range;
+
+pub use refusal::{Place, Refusal};
+
+/// The most bytes that a file may have.
+pub const FILE_BOUND: usize = 32_768;
+
+/// The group that every file starts with.
+pub const DESKTOP_ENTRY: &[u8] = b"Desktop Entry";
+
+/// The answer, or the refusal if the number is not 0.
+fn told<A>(number: u32, place: u64, answer: A) -> Result<A, Refusal> {
+    match number {
+        0 => Ok(answer),
+        _ => Err(Refusal { number, place }),
+    }
+}
+
+/// Whether the file is well formed: 1 to 6.
+pub fn check(file: &[u8]) -> Result<(), Refusal> {
+    let mut place = 0;
+    // SAFETY: the slice and the number are lent for this call only.
+    let number = unsafe { ffi::kveldrim_check(file.as_ptr(), file.len(), &mut place) };
+    told(number, place, ())
+}
+
+/// Whether the file is well formed and has what a desktop entry needs: 1 to 6, 18.
+pub fn complete(file: &[u8]) -> Result<(), Refusal> {
+    let mut place = 0;
+    // SAFETY: the slice and the number are lent for this call only.
+    let number = unsafe { ffi::kveldrim_complete(file.as_ptr(), file.len(), &mut place) };
+    told(number, place, ())
+}
+
+/// The raw value of a key, asked with its postfix (`Name` or `Name[de]`): 1 to 8.
+pub fn lookup<'a>(file: &'a [u8], group: &[u8], key: &[u8]) -> Result<&'a [u8], Refusal> {
+    lookup_ends(file, group, key).map(|ends| &file[ends])
+}
+
+/// As [`lookup`], answered by where the value stands in the file.
+pub fn lookup_ends(file: &[u8], group: &[u8], key: &[u8]) -> Result<Range<usize>, Refusal> {
+    let (mut place, mut from, mut to) = (0, 0, 0);
+    // SAFETY: the slices and the numbers are lent for this call only.
+    let number = unsafe {
+        ffi::kveldrim_lookup(
+            file.as_ptr(),
+            file.len(),
+            group.as_ptr(),
+            group.len(),
+            key.as_ptr(),
+            key.len(),
+            &mut place,
+            &mut from,
+            &mut to,
+        )
+    };
+    told(number, place, from as usize..to as usize)
+}
+
+/// The raw value of a plain key that suits the locale best (`""`, `C` and `POSIX`: the plain one): 1 to 8.
+pub fn choose<'a>(
+    file: &'a [u8],
+    group: &[u8],
+    key: &[u8],
+    locale: &[u8],
+) -> Result<&'a [u8], Refusal> {
+    choose_ends(file, group, key, locale).map(|ends| &file[ends])
+}
+
+/// As [`choose`], answered by where the value stands in the file.
+pub fn choose_ends(
+    file: &[u8],
+    group: &[u8],
+    key: &[u8],
+    locale: &[u8],
+) -> Result<Range<usize>, Refusal> {
+    let (mut place, mut from, mut to) = (0, 0, 0);
+    // SAFETY: the slices and the numbers are lent for this call only.
+    let number = unsafe {
+        ffi::kveldrim_choose(
+            file.as_ptr(),
+            file.len(),
+            group.as_ptr(),
+            group.len(),
+            key.as_ptr(),
+            key.len(),
+            locale.as_ptr(),
+            locale.len(),
+            &mut place,
+            &mut from,
+            &mut to,
+        )
+    };
+    told(number, place, from as usize..to as usize)
+}
+
+/// Reads the escapes of a raw value into the start of `out`, and answers how many bytes it wrote: 9, 11.
+pub fn read_text(raw: &[u8], out: &mut [u8]) -> Result<usize, Refusal> {
+    output(ffi::kveldrim_read_text, raw, out)
+}
+
+/// Writes text as a raw value to the start of `out`, and answers how many bytes it wrote: 10, 11.
+pub fn write_text(text: &[u8], out: &mut [u8]) -> Result<usize, Refusal> {
+    output(ffi::kveldrim_write_text, text, out)
+}
+
+/// Writes the elements of a raw list as records to the start of `out`, and answers how many bytes it wrote: 9, 11.
+/// [`Elements`] reads them.
+pub fn read_list(raw: &[u8], out: &mut [u8]) -> Result<usize, Refusal> {
+    output(ffi::kveldrim_read_list, raw, out)
+}
+
+fn output(call: ffi::OutputCall, input: &[u8], out: &mut [u8]) -> Result<usize, Refusal> {
+    let (mut place, mut written) = (0, 0);
+    // SAFETY: the slices and the numbers are lent for this call only; `input` and `out` cannot overlap.
+    let number = unsafe {
+        call(
+            input.as_ptr(),
+            input.len(),
+            out.as_mut_ptr(),
+            out.len(),
+            &mut place,
+            &mut written,
+        )
+    };
+    told(number, place, written as usize)
+}
+
+/// As [`read_text`], into a vector: 9.
+pub fn read_text_vec(raw: &[u8]) -> Result<Vec<u8>, Refusal> {
+    grown(raw.len(), |out| read_text(raw, out))
+}
+
+/// As [`write_text`], into a vector: 10.
+pub fn write_text_vec(text: &[u8]) -> Result<Vec<u8>, Refusal> {
+    grown(text.len().saturating_mul(2), |out| write_text(text, out))
+}
+
+/// As [`read_list`], into one vector for each element: 9, and 11 for an element of 4 GiB.
+pub fn read_list_vec(raw: &[u8]) -> Result<Vec<Vec<u8>>, Refusal> {
+    let most = raw.len().saturating_mul(6).saturating_add(1);
+    let records = grown(most, |out| read_list(raw, out))?;
+    Ok(Elements::new(&records).map(<[u8]>::to_vec).collect())
+}
+
+/// What a call writes, into a buffer that grows up to `most` bytes while the call finds no room (11).
+fn grown(
+    most: usize,
+    call: impl Fn(&mut [u8]) -> Result<usize, Refusal>,
+) -> Result<Vec<u8>, Refusal> {
+    let mut out = vec![0; most.min(4096)];
+    loop {
+        match call(&mut out) {
+            Ok(written) => {
+                out.truncate(written);
+                return Ok(out);
+            }
+            Err(refusal) if refusal.number == 11 && out.len() < most => {
+                out.resize(most.min(out.len().saturating_mul(2)), 0);
+            }
+            Err(refusal) => return Err(refusal),
+        }
+    }
+}
+
+/// The elements that [`read_list`] wrote: records of their whole length (4 bytes, little-endian), the kind 2 (2 bytes)
+/// and the element. Ends early at bytes that are no such record.
+pub struct Elements<'a> {
+    rest: &'a [u8],
+}
+
+impl<'a> Elements<'a> {
+    /// The elements of the bytes written.
+    pub fn new(written: &'a [u8]) -> Elements<'a> {
+        Elements { rest: written }
+    }
+}
+
+impl<'a> Iterator for Elements<'a> {
+    type Item = &'a [u8];
+
+    fn next(&mut self) -> Option<&'a [u8]> {
+        let (length, rest) = self.rest.split_first_chunk()?;
+        let length = u32::from_le_bytes(*length) as usize;
+        if !rest.starts_with(&[2, 0]) {
+            return None;
+        }
+        let element = self.rest.get(6..length)?;
+        self.rest = &self.rest[length..];
+        Some(element)
+    }
+}

@@ -1,0 +1,125 @@
+//! The bindings on their own: the examples of the rules, the words of refusals, and the C header beside them.
+
+use std::process::Command;
+
+use kveldrim::{Elements, Place, Refusal, DESKTOP_ENTRY};
+
+const T: &[u8] = b"[Desktop Entry]\nType=Application\nName=Lesen\nName[fr]=Lire\nExec=view %F\n";
+
+fn refused<A>(number: u32, place: u64) -> Result<A, Refusal> {
+    Err(Refusal { number, place })
+}
+
+#[test]
+fn files() {
+    assert_eq!(kveldrim::check(T), Ok(()));
+    assert_eq!(kveldrim::complete(T), Ok(()));
+    assert_eq!(kveldrim::check(b""), refused(3, 0));
+    assert_eq!(kveldrim::check(b"A=1"), refused(3, 1));
+    assert_eq!(
+        kveldrim::complete(b"[Desktop Entry]\nName=n"),
+        refused(18, 0)
+    );
+    assert_eq!(
+        kveldrim::check(&[b'\n'; kveldrim::FILE_BOUND]),
+        refused(3, 0)
+    );
+    assert_eq!(
+        kveldrim::check(&[b'\n'; kveldrim::FILE_BOUND + 1]),
+        refused(1, 0)
+    );
+}
+
+#[test]
+fn values() {
+    assert_eq!(
+        kveldrim::lookup(T, DESKTOP_ENTRY, b"Name[fr]"),
+        Ok(&b"Lire"[..])
+    );
+    assert_eq!(kveldrim::lookup_ends(T, DESKTOP_ENTRY, b"Name"), Ok(38..43));
+    assert_eq!(kveldrim::lookup(T, DESKTOP_ENTRY, b"Icon"), refused(8, 0));
+    assert_eq!(kveldrim::lookup(T, b"", b"Name"), refused(7, 0));
+    let chosen = kveldrim::choose(T, DESKTOP_ENTRY, b"Name", b"fr_CA.UTF-8");
+    assert_eq!(chosen, Ok(&b"Lire"[..]));
+    assert_eq!(
+        kveldrim::choose_ends(T, DESKTOP_ENTRY, b"Name", b""),
+        Ok(38..43)
+    );
+    assert_eq!(
+        kveldrim::choose(T, DESKTOP_ENTRY, b"Name[fr]", b""),
+        refused(7, 0)
+    );
+}
+
+#[test]
+fn text() {
+    let mut out = [b'.'; 4];
+    assert_eq!(kveldrim::read_text(b"a\\sb", &mut out), Ok(3));
+    assert_eq!(&out, b"a b.");
+    assert_eq!(kveldrim::read_text(b"abcde", &mut out), refused(11, 0));
+    assert_eq!(kveldrim::read_text(b"a\\q", &mut out), refused(9, 1));
+    assert_eq!(&out, b"a b.");
+    assert_eq!(kveldrim::write_text(b" x", &mut out), Ok(3));
+    assert_eq!(&out, b"\\sx.");
+    assert_eq!(kveldrim::write_text(b"\0", &mut out), refused(10, 0));
+    assert_eq!(kveldrim::read_text_vec(b"\\\\\\n"), Ok(b"\\\n".to_vec()));
+    let many = vec![b'\n'; 10_000];
+    let raw = kveldrim::write_text_vec(&many).unwrap();
+    assert_eq!(raw.len(), 20_000);
+    assert_eq!(kveldrim::read_text_vec(&raw), Ok(many));
+}
+
+#[test]
+fn lists() {
+    let mut out = [0; 20];
+    let written = kveldrim::read_list(b"a\\;b;;", &mut out).unwrap();
+    assert_eq!(written, 15);
+    let elements: Vec<&[u8]> = Elements::new(&out[..written]).collect();
+    assert_eq!(elements, [&b"a;b"[..], b""]);
+    assert_eq!(kveldrim::read_list_vec(b""), Ok(Vec::new()));
+    assert_eq!(
+        kveldrim::read_list_vec(&[b';'; 5_000]),
+        Ok(vec![Vec::new(); 5_000])
+    );
+    assert_eq!(kveldrim::read_list_vec(b";\\"), refused(9, 1));
+    assert_eq!(Elements::new(b"\x07\0\0\0\x02\0").count(), 0);
+    assert_eq!(Elements::new(b"\x06\0\0\0\x03\0").count(), 0);
+}
+
+#[test]
+fn words_of_refusals() {
+    let of = |number, place| Refusal { number, place };
+    assert_eq!(of(1, 0).to_string(), "the file is over 32,768 bytes");
+    assert!(of(2, 7)
+        .to_string()
+        .starts_with("line 7: this line is not blank"));
+    assert!(of(9, 0)
+        .to_string()
+        .starts_with("after 0 bytes of the value: unknown"));
+    assert_eq!(of(3, 0).at(), Place::None);
+    assert_eq!(of(18, 4).at(), Place::Line(4));
+    let unknown = of(99, 0).words();
+    for number in 1..=18 {
+        assert_ne!(of(number, 0).words(), unknown, "{number}");
+    }
+}
+
+/// The header is good C and C++, where there is a compiler to ask.
+#[test]
+fn header() {
+    let header = concat!(env!("CARGO_MANIFEST_DIR"), "/../../include/kveldrim.h");
+    for (language, standard) in [("c", "-std=c99"), ("c++", "-std=c++98")] {
+        let flags = ["-pedantic", "-Wall", "-Wextra", "-Werror", "-fsyntax-only"];
+        let told = Command::new("cc")
+            .args(["-x", language, standard])
+            .args(flags)
+            .arg(header)
+            .output();
+        if let Ok(told) = told {
+            let words = String::from_utf8_lossy(&told.stderr).into_owned();
+            // A C compiler may come without C++.
+            let absent = words.contains("cc1plus");
+            assert!(told.status.success() || absent, "{words}");
+        }
+    }
+}
