@@ -1,12 +1,26 @@
--- The examples hold, by computation: a wrong row is shown by its number's place in the two lists. Assumes nothing.
+-- The examples hold, by computation: a wrong row is shown by its place in the two lists. Assumes nothing.
 use mathlib.Core.Path.{refl}
-use Rattle.base.specs.Lists.{any, all}
-use Rattle.text.specs.Class.{valueByte, textByte}
+use Rattle.base.specs.Lists.{same, span, any, all, first}
+use Rattle.text.specs.Class.{keyByte, groupByte, blankByte, valueByte, textByte}
 use Rattle.text.specs.Utf8.{lead, step, textFault}
 use Rattle.text.specs.Escape.{textEscape, escape, textFrom, readText, escaped, escapedAll, rawText, fitText, writeText}
 use Rattle.text.specs.Element.{rawElements, eachRead, elementsOf}
+use Rattle.line.specs.Locale.{marked, parts, emptyPart, isLocale}
+use Rattle.line.specs.Name.{postfixAt, readName}
+use Rattle.line.specs.Line.{entryAfter, readEntry, readHeader, readLine}
+use Rattle.line.specs.Form.{groupForm, plainForm, keyForm, localeForm}
+use Rattle.rows.specs.Rows.{rows, lineOf, rowsFrom, readRows}
+use Rattle.rows.specs.Title.{title, sameTitle, findRow}
+use Rattle.wellformed.specs.Check.{titleFault, earliest, plainOf, noPlain, checkAs}
+use Rattle.choice.specs.Locale.{stripped, plainLocale, candidates, firstKey, chosen}
+use Rattle.entry.specs.Lookup.{valueEnds, lookup}
+use Rattle.entry.specs.Choose.{choose}
 use Rattle.demands.specs.Examples.{ExamplesHold}
 
 pub examples-hold : ExamplesHold
-unfolding valueByte textByte lead step textFault textEscape escape textFrom readText escaped escapedAll rawText fitText writeText rawElements eachRead elementsOf
+unfolding same span any all first keyByte groupByte blankByte valueByte textByte lead step textFault
+    textEscape escape textFrom readText escaped escapedAll rawText fitText writeText rawElements eachRead elementsOf
+    marked parts emptyPart isLocale postfixAt readName entryAfter readEntry readHeader readLine groupForm plainForm keyForm localeForm
+    rows lineOf rowsFrom readRows title sameTitle findRow titleFault earliest plainOf noPlain checkAs
+    stripped plainLocale candidates firstKey chosen valueEnds lookup choose
 examples-hold = refl

@@ -1,2 +1,3 @@
 pub mod ReadBackLaws
+pub mod FileLaws
 pub mod ExampleTable

@@ -1,12 +1,16 @@
 -- The examples of 01 that are marked P, in its order: one table, under the one claim `ExamplesHold`. Assumes nothing.
 use Prim.Native.Nat.{ℕ}
 use mathlib.Core.Path.{_≡_}
-use mathlib.Core.List.{List, [], _∷_, map}
+use mathlib.Core.List.{List, [], _∷_, _++_, map}
+use lib.ListN.{length}
 use Rattle.base.specs.Lists.{ascii}
 use Rattle.fault.specs.Table.{numberOf, placeOf}
 use Rattle.fault.specs.Answer.{Answer, given, refused}
 use Rattle.text.specs.Escape.{readText, writeText}
 use Rattle.text.specs.Element.{elementsOf}
+use Rattle.wellformed.specs.Check.{check}
+use Rattle.entry.specs.Lookup.{Extent, lookup, partOf}
+use Rattle.entry.specs.Choose.{choose}
 
 -- what an example shows: some lists of bytes, or a refusal's number and place
 pub data Shown : Type 0 where
@@ -23,6 +27,31 @@ pub record Example : Type 0 where
   pub asked : Shown
   pub expected : Shown
 
+-- a file of lines, each with its LF
+abbrev pub file : List (List ℕ) → List ℕ
+file [] = []
+file (l ∷ ls) = l ++ (ascii "\n" ++ file ls)
+
+-- file T
+abbrev pub fileT : List ℕ
+fileT = file (ascii "[Desktop Entry]" ∷ ascii "Type=Application" ∷ ascii "Name=Lesen" ∷ ascii "Name[fr]=Lire" ∷ ascii "Exec=view %F" ∷ [])
+
+-- whether a file is well formed
+abbrev pub checks : List ℕ → Shown
+checks f = shown (λ u. []) (check f)
+
+-- the value of Name in a file with this line
+abbrev pub nameIn : List ℕ → Shown
+nameIn line =
+    let f : List ℕ = file (ascii "[Desktop Entry]" ∷ line ∷ []) in
+    shown (λ (e : Extent). partOf f (given e) ∷ []) (lookup f (ascii "Desktop Entry") (ascii "Name"))
+
+-- the value that a locale takes among these entries
+abbrev pub nameFor : List ℕ → List (List ℕ) → Shown
+nameFor locale entries =
+    let f : List ℕ = file (ascii "[Desktop Entry]" ∷ entries) in
+    shown (λ (e : Extent). partOf f (given e) ∷ []) (choose f (ascii "Desktop Entry") (ascii "Name") locale)
+
 -- the elements of a raw value
 abbrev pub elements : List ℕ → Shown
 elements raw = shown (λ es. es) (elementsOf raw)
@@ -37,9 +66,18 @@ writes text = shown (λ s. s ∷ []) (writeText text)
 -- the table
 abbrev pub examples : List Example
 examples =
-    record { asked = elements (ascii "a\\;b;;"); expected = Gives (ascii "a;b" ∷ [] ∷ []) }
+    record { asked = checks []; expected = Refuses 3 0 }
+    ∷ record { asked = checks fileT; expected = Gives [] }
+    ∷ record { asked = Gives ((length fileT ∷ []) ∷ []); expected = Gives ((71 ∷ []) ∷ []) }
+    ∷ record { asked = nameIn (ascii "Name = X"); expected = Gives (ascii "X" ∷ []) }
+    ∷ record { asked = nameIn (ascii "Name="); expected = Gives ([] ∷ []) }
+    ∷ record { asked = elements (ascii "a\\;b;;"); expected = Gives (ascii "a;b" ∷ [] ∷ []) }
     ∷ record { asked = elements (ascii ";"); expected = Gives ([] ∷ []) }
     ∷ record { asked = elements []; expected = Gives [] }
+    ∷ record {
+      asked = nameFor (ascii "sr_YU@Latn") (ascii "Name=Foo" ∷ ascii "Name[sr_YU]=a" ∷ ascii "Name[sr@Latn]=b" ∷ ascii "Name[sr]=c" ∷ []);
+      expected = Gives (ascii "a" ∷ []);
+    }
     ∷ record { asked = writes (ascii " x"); expected = Gives (ascii "\\sx" ∷ []) }
     ∷ record { asked = reads (ascii "a\\q"); expected = Refuses 9 1 }
     ∷ []

@@ -200,10 +200,11 @@ pub fn value(random: &mut Random, once: usize) -> Vec<u8> {
             }
             continue;
         }
-        match random.below(4) {
-            0 => value.extend(random.pick(UTF8).bytes()),
-            1 => value.extend(random.pick(ESCAPES).bytes()),
-            2 => value.push(random.within(0x20, 0x7E) as u8),
+        match random.below(9) {
+            0 => value.extend(vec![b'a'; random.within(1, 70)]),
+            1 | 2 => value.extend(random.pick(UTF8).bytes()),
+            3 | 4 => value.extend(random.pick(ESCAPES).bytes()),
+            5 | 6 => value.push(random.within(0x20, 0x7E) as u8),
             _ => value.extend(random.pick(WORDS).bytes()),
         }
     }

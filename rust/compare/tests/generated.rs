@@ -2,7 +2,7 @@
 
 use compare::calls::{Asker, Case};
 use compare::files;
-use compare::pieces::{self, UTF8_BORDERS};
+use compare::pieces::{self, BORDERS, UTF8_BORDERS};
 use compare::run::run;
 
 const SOUND: u64 = 60_000;
@@ -164,6 +164,41 @@ fn utf8_borders() {
         let compared = asker.write_text(&bytes).and_then(|()| asker.check(&file));
         if let Err(difference) = compared {
             panic!("{}: {difference}", bytes.escape_ascii());
+        }
+    }
+}
+
+/// Every byte of the borders at every place of runs of up to four machine words and more, in text and in every kind of line.
+#[test]
+fn borders_in_runs() {
+    let mut asker = Asker::new(2);
+    for length in 1..=40 {
+        for at in 0..length {
+            for byte in BORDERS {
+                let mut run = vec![b'a'; length];
+                run[at] = *byte;
+                let lines = [
+                    &b"[Desktop Entry]\n"[..],
+                    b"k=",
+                    &run,
+                    b"\n",
+                    b"#",
+                    &run,
+                    b"\n",
+                ];
+                let key = [&b"[Desktop Entry]\n"[..], &run, b"=\n"].concat();
+                let postfix = [&b"[Desktop Entry]\nk=\nk["[..], &run, b"]=\n"].concat();
+                let header = [&b"[Desktop Entry]\n["[..], &run, b"]\n"].concat();
+                let compared = Case::Text(run.clone())
+                    .compare(&mut asker)
+                    .and_then(|()| asker.check(&lines.concat()))
+                    .and_then(|()| asker.check(&key))
+                    .and_then(|()| asker.check(&postfix))
+                    .and_then(|()| asker.check(&header));
+                if let Err(difference) = compared {
+                    panic!("{}: {difference}", run.escape_ascii());
+                }
+            }
         }
     }
 }

@@ -1,0 +1,155 @@
+-- Checking, lookup and choice together. Assumes nothing.
+use mathlib.Core.Path.{_≡_, refl, sym, ap, _∙_}
+use Prim.Native.Nat.{ℕ, zero, suc, _+_}
+use native.Mathlib.Omega.{arith}
+use mathlib.Core.Bool.{Bool, true, false, not, _&&_, _||_, false≢true}
+use mathlib.Core.Option.{Option, none, some}
+use mathlib.Core.List.{List, [], _∷_, _++_, append-assoc, map}
+use lib.ListN.{length, take}
+use lib.Seq.{take-append-seam}
+use lib.Dec.{eqb, leb}
+use Rattle.base.specs.Choice.{pick, maybe, there}
+use Rattle.base.specs.Lists.{ascii, span, all, any, first}
+use Rattle.base.proofs.Tests.{no, and-both, or-both}
+use Rattle.base.proofs.Search.{there-first}
+use Rattle.fault.specs.declared.Fault.the-variants.{BadArgument, Missing}
+use Rattle.fault.specs.Answer.{Answer, given, refused, _>>=_, need, some-or, accepted}
+use Rattle.text.specs.Class.{keyByte}
+use Rattle.line.specs.Line.{isBad}
+use Rattle.line.specs.Form.{groupForm, keyForm, plainForm, localeForm}
+use Rattle.rows.specs.Rows.{Row, readRows}
+use Rattle.rows.specs.Title.{Title, Key, title, sameTitle, titles, findRow, has}
+use Rattle.rows.proofs.Titles.{found-title}
+use Rattle.wellformed.specs.Check.{check, desktopEntry, plainOf, plainTitle, wanted, noPlain}
+use Rattle.wellformed.specs.WellFormed.{leads, distinct, wellFormedAs, wellFormed, CheckAccepts}
+use Rattle.wellformed.proofs.Accepts.{check-accepts}
+use Rattle.choice.specs.Locale.{candidates, postfixed, firstKey, chosen}
+use Rattle.choice.proofs.Chosen.{chosen-there}
+use Rattle.choice.proofs.Choices.{first-append}
+use Rattle.entry.specs.Lookup.{Extent, valueEnds, lookup}
+use Rattle.entry.specs.Choose.{choose}
+use Rattle.demands.specs.Files.{LookupMisses, ChoiceMisses, ChoiceTakesFirst}
+
+-- ---- a well-formed file passes the check, and each postfixed key stands plain too
+
+accepted-given : (a : Answer (Unit {0})) → accepted a ≡ true → a ≡ given tt
+accepted-given (given tt) e = refl
+accepted-given (refused f) e = absurd (false≢true e)
+
+checks : (file : List ℕ) → wellFormed file ≡ true → check file ≡ given tt
+unfolding CheckAccepts
+checks file w = accepted-given (check file) (check-accepts desktopEntry file ∙ w)
+
+all-plain : (file : List ℕ) → wellFormed file ≡ true → any (noPlain (readRows file)) (readRows file) ≡ false
+unfolding wellFormedAs
+all-plain file w =
+    let rs : List Row = readRows file in
+    not-true (any (noPlain rs) rs)
+    (and-both
+    (leb (length file) 32768 && not (any (λ r. isBad (r .reading)) rs) && leads desktopEntry (titles rs) && distinct (titles rs)) (not (any (noPlain rs) rs)) w .1)
+  where
+    not-true : (t : Bool) → not t ≡ true → t ≡ false
+    not-true true e = sym e
+    not-true false e = refl
+
+-- what no element of a list is, one that was found is not
+none-is : (p q : Row → Bool) (rs : List Row) (r : Row) → any p rs ≡ false → first q rs ≡ some r → p r ≡ false
+unfolding any first
+none-is p q [] r h e = no (cc)
+none-is p q (x ∷ rs) r h e = by (q x) e (or-both (p x) (any p rs) h) (none-is p q rs r)
+  where
+    by : (t : Bool) → pick t (some x) (first q rs) ≡ some r → (p x ≡ false) × (any p rs ≡ false) → (any p rs ≡ false → first q rs ≡ some r → p r ≡ false) → p r ≡ false
+    by true e h f = let i : x ≡ r = cc in rw i at (h .0)
+    by false e h f = f (h .1) e
+
+-- a key that is there stands plain too
+stands-plain : (file group k : List ℕ) → wellFormed file ≡ true → has (readRows file) (Key group k) ≡ true → has (readRows file) (Key group (plainOf k)) ≡ true
+unfolding noPlain findRow
+stands-plain file group k w y = by (findRow (readRows file) (Key group k)) refl y
+  where
+    not-not : (t : Bool) → not t ≡ false → t ≡ true
+    not-not true e = refl
+    not-not false e = sym e
+
+    by : (o : Option Row) → findRow (readRows file) (Key group k) ≡ o → there o ≡ true → has (readRows file) (Key group (plainOf k)) ≡ true
+    by none q y = absurd (false≢true y)
+    by (some r) q y =
+        let n = none-is (noPlain (readRows file)) (λ r. sameTitle (Key group k) (title r)) (readRows file) r (all-plain file w) q in
+        not-not (has (readRows file) (Key group (plainOf k))) (sym (ap (λ (t : Title). wanted (readRows file) (plainTitle t)) (found-title (readRows file) (Key group k) r q)) ∙ n)
+
+-- ---- the plain key of a key with a postfix
+
+span-key : (key rest : List ℕ) → all keyByte key ≡ true → span keyByte (key ++ (91 ∷ rest)) ≡ length key
+unfolding span all keyByte
+span-key [] rest e = refl
+span-key (b ∷ key) rest e = let w = and-both (keyByte b) (all keyByte key) e in rw (w .0) (ap suc (span-key key rest (w .1)))
+
+plain-postfixed : (key l : List ℕ) → plainForm key ≡ true → plainOf (postfixed key l) ≡ key
+unfolding plainOf plainForm
+plain-postfixed key l f =
+    let k = and-both (not (eqb (length key) 0)) (all keyByte key) f .1 in
+    let e : postfixed key l ≡ key ++ (91 ∷ (l ++ (93 ∷ []))) = simp append-assoc in
+    rw (e, span-key key (l ++ (93 ∷ [])) k) (take-append-seam key (91 ∷ (l ++ (93 ∷ []))))
+
+-- ---- the laws
+
+answers : {A : Type 0} (t : Bool) (k : Answer A) → t ≡ true → (need t BadArgument >>= λ _. k) ≡ k
+answers true k e = refl
+answers false k e = absurd (false≢true e)
+
+-- a value that is there is told by its ends, and one that is not by 8
+missing : (o : Option Row) → ((some-or o Missing >>= λ r. given (valueEnds r)) ≡ refused Missing → there o ≡ false)
+    × (there o ≡ false → (some-or o Missing >>= λ r. given (valueEnds r)) ≡ refused Missing)
+missing none = (λ e. refl, λ e. refl)
+missing (some r) = (λ e. no (cc), λ e. no (cc))
+
+lookup-is : (file group key : List ℕ) → wellFormed file ≡ true → (groupForm group && keyForm key) ≡ true
+    → lookup file group key ≡ (some-or (findRow (readRows file) (Key group key)) Missing >>= λ r. given (valueEnds r))
+unfolding lookup
+lookup-is file group key w f = rw (checks file w) (answers (groupForm group && keyForm key) (some-or (findRow (readRows file) (Key group key)) Missing >>= λ r. given (valueEnds r)) f)
+
+choose-is : (file group key locale : List ℕ) → wellFormed file ≡ true → (groupForm group && plainForm key && localeForm locale) ≡ true
+    → choose file group key locale ≡ (some-or (chosen (readRows file) group key locale) Missing >>= λ r. given (valueEnds r))
+unfolding choose
+choose-is file group key locale w f =
+    rw (checks file w) (answers (groupForm group && plainForm key && localeForm locale) (some-or (chosen (readRows file) group key locale) Missing >>= λ r. given (valueEnds r)) f)
+
+pub lookup-misses : LookupMisses
+unfolding LookupMisses
+lookup-misses file group key w f =
+    let m = missing (findRow (readRows file) (Key group key)) in
+    let i = lookup-is file group key w f in
+    (λ e. m .0 (sym i ∙ e), λ e. i ∙ m .1 e)
+
+-- where the plain key is absent, so is each candidate
+none-there : (file group key : List ℕ) (ls : List (List ℕ)) → wellFormed file ≡ true → plainForm key ≡ true → has (readRows file) (Key group key) ≡ false
+    → any (λ l. has (readRows file) (Key group (postfixed key l))) ls ≡ false
+unfolding any
+none-there file group key [] w f h = refl
+none-there file group key (l ∷ ls) w f h = by (has (readRows file) (Key group (postfixed key l))) refl (none-there file group key ls w f h)
+  where
+    by : (t : Bool) → has (readRows file) (Key group (postfixed key l)) ≡ t → any (λ l. has (readRows file) (Key group (postfixed key l))) ls ≡ false
+        → (t || any (λ l. has (readRows file) (Key group (postfixed key l))) ls) ≡ false
+    by false q e = e
+    by true q e =
+        absurd (false≢true (sym h ∙ ap (λ (k : List ℕ). has (readRows file) (Key group k)) (sym (plain-postfixed key l f)) ∙ stands-plain file group (postfixed key l) w q))
+
+pub choice-misses : ChoiceMisses
+unfolding ChoiceMisses
+choice-misses file group key locale w f =
+    let rs : List Row = readRows file in
+    let m = missing (chosen rs group key locale) in
+    let i = choose-is file group key locale w f in
+    let t = chosen-there rs group key locale in
+    let p = and-both (groupForm group) (plainForm key) (and-both (groupForm group && plainForm key) (localeForm locale) f .0) .1 in (
+      λ e. or-both (any (λ l. has rs (Key group (postfixed key l))) (candidates locale)) (has rs (Key group key)) (sym t ∙ m .0 (sym i ∙ e)) .1,
+      λ e. i ∙ m .1 (t ∙ rw (none-there file group key (candidates locale) w p e, e)),
+    )
+
+pub choice-takes-first : ChoiceTakesFirst
+unfolding ChoiceTakesFirst chosen firstKey
+choice-takes-first file group key locale k before after r w f i b y =
+    let rs : List Row = readRows file in
+    let z : maybe (firstKey rs group before) (firstKey rs group (k ∷ after)) some ≡ some r = rw (b, y) in
+    let c : chosen rs group key locale ≡ some r = ap (firstKey rs group) i ∙ first-append rs group before (k ∷ after) ∙ z in
+    choose-is file group key locale w f ∙ rw c

@@ -1,0 +1,36 @@
+-- What holds of checking, lookup and choice together (demands 1 and 2). Assumes nothing.
+use mathlib.Core.Path.{_≡_}
+use Prim.Native.Nat.{ℕ}
+use mathlib.Core.Bool.{Bool, true, false, _&&_}
+use mathlib.Core.Option.{none, some}
+use mathlib.Core.List.{List, [], _∷_, _++_, map}
+use Rattle.fault.specs.declared.Fault.the-variants.{Missing}
+use Rattle.fault.specs.Answer.{Answer, given, refused}
+use Rattle.line.specs.Form.{groupForm, keyForm, plainForm, localeForm}
+use Rattle.rows.specs.Rows.{Row, readRows}
+use Rattle.rows.specs.Title.{Key, findRow, has}
+use Rattle.wellformed.specs.WellFormed.{wellFormed}
+use Rattle.choice.specs.Locale.{candidates, postfixed, firstKey}
+use Rattle.entry.specs.Lookup.{Extent, valueEnds, lookup}
+use Rattle.entry.specs.Choose.{choose}
+
+-- lookup in a well-formed file, with arguments of the form, is refused exactly if the name is absent, and then with 8
+unfoldable pub LookupMisses : Type 0
+LookupMisses = (file group key : List ℕ) → wellFormed file ≡ true → (groupForm group && keyForm key) ≡ true
+    → (lookup file group key ≡ refused Missing → has (readRows file) (Key group key) ≡ false)
+    × (has (readRows file) (Key group key) ≡ false → lookup file group key ≡ refused Missing)
+
+-- choice is refused with 8 exactly if the plain key is missing, or its whole group
+unfoldable pub ChoiceMisses : Type 0
+ChoiceMisses = (file group key locale : List ℕ) → wellFormed file ≡ true → (groupForm group && plainForm key && localeForm locale) ≡ true
+    → (choose file group key locale ≡ refused Missing → has (readRows file) (Key group key) ≡ false)
+    × (has (readRows file) (Key group key) ≡ false → choose file group key locale ≡ refused Missing)
+
+-- otherwise it takes the first candidate that is present: those before it are absent
+unfoldable pub ChoiceTakesFirst : Type 0
+ChoiceTakesFirst = (file group key locale k : List ℕ) (before after : List (List ℕ)) (r : Row) → wellFormed file ≡ true
+    → (groupForm group && plainForm key && localeForm locale) ≡ true
+    → map (postfixed key) (candidates locale) ++ (key ∷ []) ≡ before ++ (k ∷ after)
+    → firstKey (readRows file) group before ≡ none
+    → findRow (readRows file) (Key group k) ≡ some r
+    → choose file group key locale ≡ given (valueEnds r)
