@@ -15,8 +15,8 @@
  * - A refusal changes no byte that was lent. An accepted call writes to the start of its output; the rest keeps its bytes.
  * - Slices are lent for the call only. An output overlaps no other slice, and the number pointers are not NULL, point to
  *   different numbers and into no slice. Inputs may overlap each other.
- * - No call allocates memory, keeps anything or waits; calls may run in several threads at once. About 24 KiB of stack
- *   are enough for each.
+ * - No call allocates memory, keeps anything or waits; calls may run in several threads at once. 64 KiB of stack are
+ *   enough for each.
  *
  * Example
  *

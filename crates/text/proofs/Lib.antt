@@ -1,4 +1,5 @@
 pub mod Utf8Laws
+pub mod Characters
 pub mod OutputLaws
 pub mod Reading
 pub mod Writing

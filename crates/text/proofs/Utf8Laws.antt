@@ -57,11 +57,6 @@ pub moved-start : (o : Option ℕ) → moved 0 o ≡ o
 moved-start none = refl
 moved-start (some m) = ap some (omega arith)
 
--- one tail byte less is due
-pub tails-more : (n : ℕ) → (n ≡ 0 → ⊥) → Tail (n - 1) 0x80 0xbf ≡ tails n
-tails-more zero h = absurd (h refl)
-tails-more (suc n) h = let e : suc n - 1 ≡ n = omega arith in rw e
-
 -- ---- bounds
 
 -- a fault's place lies inside, or at the end

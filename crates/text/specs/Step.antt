@@ -1,21 +1,25 @@
 -- What the inner functions of this crate answer, by the definitions of text. Assumes nothing.
-use Prim.Native.Nat.{ℕ, suc, _+_, _-_}
+use Prim.Native.Nat.{ℕ, zero, suc, _+_, _-_}
 use Prim.Native.Char.{Char, code}
 use mathlib.Core.Bool.{Bool, true, false}
 use mathlib.Core.Option.{Option, none, some}
 use mathlib.Core.List.{List, [], _∷_}
-use lib.ListN.{length}
+use lib.ListN.{length, getD}
 use lib.Dec.{eqb, ltb, leb}
 use Rattle.base.specs.Choice.{pick, maybe}
 use Rattle.base.specs.Lists.{span}
 use Rattle.fault.specs.declared.Fault.the-variants.{BadEscape}
 use Rattle.fault.specs.Answer.{Answer, given, refused}
 use Rattle.record.specs.Record.{headLength}
-use Rattle.text.specs.Class.{valueByte}
+use Rattle.text.specs.Class.{within, valueByte}
+use Rattle.text.specs.Utf8.{lead}
 use Rattle.text.specs.declared.Class.{Class}
 use Rattle.text.specs.declared.Class.the-variants as class
 use Rattle.text.specs.Escape.{escape}
 use Rattle.text.specs.declared.Due.{Due}
+use Rattle.text.specs.declared.Due.the-variants as due
+use Rattle.text.specs.declared.Rest.{Rest}
+use Rattle.text.specs.declared.Rest.the-variants as rest
 use Rattle.text.specs.declared.Next.{Next}
 use Rattle.text.specs.declared.Next.the-variants as next
 use Rattle.text.specs.declared.Scan.{Scan}
@@ -48,6 +52,25 @@ skipOf class.Space s = 0
 skipOf class.Blank s = 0
 skipOf class.Value s = span valueByte s
 skipOf class.Text s = span valueByte s
+
+-- a tail byte at a place: none, one that does not fit, or what comes after it
+abbrev pub tailAt : List ℕ → ℕ → ℕ → ℕ → Rest → Rest
+tailAt s i low high after = pick (ltb i (length s)) (pick (within low high (getD s i 0)) after (rest.Fault i)) (rest.Fault i)
+
+-- the rest of a character from a place on: a byte from low to high, and so many more after it
+unfoldable pub restAt : List ℕ → ℕ → ℕ → ℕ → ℕ → Rest
+restAt s i zero low high = tailAt s i low high (rest.End (i + 1))
+restAt s i (suc more) low high = let after : Rest = restAt s (i + 1) more 0x80 0xbf in tailAt s i low high after
+
+-- a character by what its first byte asks for
+abbrev pub begunAt : List ℕ → ℕ → Option Due → Rest
+begunAt s i none = rest.Fault i
+begunAt s i (some due.Start) = rest.End (i + 1)
+begunAt s i (some (due.Tail more low high)) = restAt s (i + 1) more low high
+
+-- the character over 0x7F at a place
+unfoldable pub characterAt : List ℕ → ℕ → Rest
+characterAt s i = begunAt s i (lead (getD s i 0))
 
 -- the byte that an escape stands for, with the two raw bytes it takes
 abbrev pub pairOf : Option ℕ → Piece

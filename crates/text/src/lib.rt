@@ -33,6 +33,12 @@ pub enum Next {
     Stop,
 }
 
+// Where a character ends, or where it does not go on.
+pub enum Rest {
+    End(usize),
+    Fault(usize),
+}
+
 // Whether bytes are text, or where they stop to be.
 pub enum Scan {
     Sound,

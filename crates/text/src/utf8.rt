@@ -1,13 +1,16 @@
-// UTF-8 (RFC 3629), a byte at a time.
+// UTF-8 (RFC 3629), a character at a time.
 use crate::Class;
 use crate::Due;
 use crate::Next;
+use crate::Rest;
 use crate::Scan;
 use crate::classes;
 ghost use mathlib.Core.Path.{_≡_};
+ghost use Prim.Native.Nat.{_<_};
+ghost use lib.ListN.{length};
 ghost use Rattle.text.specs.Class.{member};
 ghost use Rattle.text.specs.Utf8 as spec;
-ghost use Rattle.text.specs.Step.{dueOf, faultOf, skipOf};
+ghost use Rattle.text.specs.Step.{dueOf, faultOf, skipOf, restAt, characterAt};
 
 // A character that was begun.
 fn tail(more: u8, low: u8, high: u8) -> Next
@@ -44,43 +47,6 @@ fn lead(b: u8) -> Next
     Next::Stop
 }
 
-// What is due when so many tail bytes are left.
-fn tails(more: u8) -> Due
-    ensures { λ r. ⌜ r ≡ spec.tails more ⌝ }
-{
-    if more == 0 {
-        return Due::Start;
-    }
-    Due::Tail {
-        more: more - 1,
-        low: 0x80,
-        high: 0xbf,
-    }
-}
-
-// What is due after a byte, where the ASCII bytes of a class may stand.
-pub fn step(k: Class, due: Due, b: u8) -> Next
-    ensures { λ r. ⌜ dueOf r ≡ spec.step (member k) due b ⌝ }
-{
-    match due {
-        Due::Start => {
-            if 0x80 <= b {
-                return lead(b);
-            }
-            if classes::is_in(k, b) {
-                return Next::Is(Due::Start);
-            }
-            Next::Stop
-        }
-        Due::Tail { more, low, high } => {
-            if classes::within(low, high, b) {
-                return Next::Is(tails(more));
-            }
-            Next::Stop
-        }
-    }
-}
-
 // How many ASCII bytes at the front are surely text: a fast way through the most frequent bytes.
 fn skip(s: &[u8], k: Class) -> usize
     ensures { λ r. ⌜ r ≡ skipOf k (now (s .entry)) ⌝ }
@@ -95,27 +61,64 @@ fn skip(s: &[u8], k: Class) -> usize
     }
 }
 
+// The rest of a character that was begun: where it ends, or where it does not go on.
+fn rest(s: &[u8], from: usize, more: u8, low: u8, high: u8) -> Rest
+    ensures { λ r. ⌜ r ≡ restAt (now (s .entry)) from more low high ⌝ }
+{
+    let mut i = from;
+    let mut m = more;
+    let mut lo = low;
+    let mut hi = high;
+    while i < s.len() {
+        if classes::within(lo, hi, s[i]) {
+            if m == 0 {
+                return Rest::End(i + 1);
+            }
+            m -= 1;
+            lo = 0x80;
+            hi = 0xbf;
+            i += 1;
+        } else {
+            return Rest::Fault(i);
+        }
+    }
+    Rest::Fault(i)
+}
+
+// The character that begins with a byte over 0x7F.
+fn character(s: &[u8], i: usize) -> Rest
+    requires { ⌜ i < length (now s) ⌝ }
+    ensures { λ r. ⌜ r ≡ characterAt (now (s .entry)) i ⌝ }
+{
+    match lead(s[i]) {
+        Next::Stop => Rest::Fault(i),
+        Next::Is(due) => match due {
+            Due::Start => Rest::End(i + 1),
+            Due::Tail { more, low, high } => rest(s, i + 1, more, low, high),
+        },
+    }
+}
+
 // The first byte after which no ending makes a text, or the length where the text is only unfinished.
 pub fn scan(s: &[u8], k: Class) -> Scan
     ensures { λ r. ⌜ faultOf r ≡ spec.textFault (member k) Due.Start (now (s .entry)) ⌝ }
 {
-    let mut due = Due::Start;
     let mut i = skip(s, k);
     while i < s.len() {
-        match step(k, due, s[i]) {
-            Next::Is(next) => {
-                due = next;
+        if s[i] < 0x80 {
+            if classes::is_in(k, s[i]) {
                 i += 1;
+            } else {
+                return Scan::Fault(i);
             }
-            Next::Stop => return Scan::Fault(i),
+        } else {
+            match character(s, i) {
+                Rest::End(j) => {
+                    i = j;
+                }
+                Rest::Fault(j) => return Scan::Fault(j),
+            }
         }
     }
-    match due {
-        Due::Start => Scan::Sound,
-        Due::Tail {
-            more: _,
-            low: _,
-            high: _,
-        } => Scan::Fault(i),
-    }
+    Scan::Sound
 }

@@ -74,6 +74,7 @@ fn main() {
     println!("|---|---|---:|---:|---:|");
     if !real.0.is_empty() {
         table("real files", &real.0);
+        read_text("real files", &real.0);
     }
     table("32 KB of short keys", &short.0);
     table(
@@ -83,7 +84,7 @@ fn main() {
     read_text("one value of 30 KB", &long);
 }
 
-/// All rows of an input.
+/// The rows of calls on whole files.
 fn table(name: &str, inputs: &[Input]) {
     let mut out = vec![0; kveldrim::FILE_BOUND];
     row(
@@ -127,7 +128,6 @@ fn table(name: &str, inputs: &[Input]) {
             black_box(file.and_then(|file| file.chosen(&input.nine[1], LOCALE)));
         },
     );
-    read_text(name, inputs);
 }
 
 /// Reading text alone: the library gets raw values, GLib the keys of a file that it has read before.

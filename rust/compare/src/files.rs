@@ -379,6 +379,73 @@ pub fn near_bound(random: &mut Random) -> Vec<u8> {
     file
 }
 
+/// A file and questions with a name, key or part of a locale that is very long; near the bound, or far over it.
+pub fn long_names(random: &mut Random) -> Case {
+    let mut lengths = [(); 5].map(|()| random.within(1, 4));
+    for _ in 0..random.within(1, 2) {
+        let long = match random.below(5) {
+            0 => random.within(200, 300),
+            1 => random.within(3_000, 9_000),
+            2 => random.within(15_000, 16_500),
+            3 => random.within(32_600, 32_780),
+            _ => random.within(32_780, 70_000),
+        };
+        lengths[random.below(5)] = long;
+    }
+    let [group, key, lang, country, modifier] = lengths.map(|length| {
+        let first = random.below(KEY_BYTES.len());
+        let bytes = KEY_BYTES.iter().cycle().skip(first);
+        bytes.take(length).copied().collect::<Vec<u8>>()
+    });
+    let country = match random.below(3) {
+        0 => Vec::new(),
+        _ => [b"_", &country[..]].concat(),
+    };
+    let modifier = match random.below(3) {
+        0 => Vec::new(),
+        _ => [b"@", &modifier[..]].concat(),
+    };
+    let mut file = [HEADER, b"[", &group, b"]\n", &key, b"=plain\n"].concat();
+    let postfixes = [
+        [&lang[..], &country, &modifier].concat(),
+        [&lang[..], &country].concat(),
+        [&lang[..], &modifier].concat(),
+    ];
+    for postfix in &postfixes {
+        let line = [&key[..], b"[", postfix, b"]=value\n"].concat();
+        if random.once_in(2) && file.len() + line.len() <= BOUND {
+            file.extend(line);
+        }
+    }
+    let encoding: &[u8] = if random.once_in(2) { b".UTF-8" } else { b"" };
+    let mut ask = Ask {
+        group,
+        key: [&key[..], b"[", &postfixes[random.below(3)], b"]"].concat(),
+        plain: key,
+        locale: [&lang[..], &country, encoding, &modifier].concat(),
+    };
+    let changed = match random.below(8) {
+        0 => &mut ask.group,
+        1 => &mut ask.key,
+        2 => &mut ask.plain,
+        3 => &mut ask.locale,
+        _ => {
+            return Case::File {
+                file,
+                asks: vec![ask],
+            }
+        }
+    };
+    match random.below(2) {
+        0 => changed.push(random.byte_of(b"aA-=")),
+        _ => drop(changed.pop()),
+    }
+    Case::File {
+        file,
+        asks: vec![ask],
+    }
+}
+
 /// A long text or list: runs of a byte, letters and escapes, one after another.
 pub fn long_text(random: &mut Random) -> Vec<u8> {
     let length = random.within(500, 40_000);

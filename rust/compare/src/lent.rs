@@ -109,34 +109,38 @@ impl Numbers {
 
     /// Whether the call told this: the numbers of its answer, or a refusal's number and place.
     pub fn tell(&self, result: u32, expected: &Result<Vec<u64>, (u32, u64)>) -> Result<(), String> {
-        let mut cells = [BEFORE; 7];
-        let mut number = 0;
-        match expected {
-            Ok(answer) => {
-                cells[1] = 0;
-                for (at, one) in answer.iter().enumerate() {
-                    cells[3 + 2 * at] = *one;
-                }
-            }
-            Err(refusal) => (number, cells[1]) = *refusal,
+        let (number, place, answer) = match expected {
+            Ok(answer) => (0, 0, &answer[..]),
+            Err((number, place)) => (*number, *place, &[][..]),
+        };
+        let more = |at: usize| answer.get(at).copied().unwrap_or(BEFORE);
+        let [before, found, between, first, again, second, after] = self.0;
+        if [before, between, again, after] != [BEFORE; 4] {
+            return Err("a number beside the lent ones was written".into());
         }
-        if result == number && self.0 == cells {
+        let (found, expected) = (
+            (result, found, first, second),
+            (number, place, more(0), more(1)),
+        );
+        if found == expected {
             return Ok(());
         }
-        let show = |cell: u64| match cell {
-            BEFORE => "not written".to_string(),
-            cell => cell.to_string(),
-        };
-        let shown = |result: u32, cells: &[u64; 7]| {
-            let [before, place, .., after] = cells.map(show);
-            let (first, second) = (show(cells[3]), show(cells[5]));
-            format!("result {result}, place {place}, numbers {first} and {second}, guards {before} and {after}")
-        };
-        let (found, expected) = (shown(result, &self.0), shown(number, &cells));
         Err(format!(
-            "the library tells  {found}\nthe reference      {expected}"
+            "the library tells  {}\nthe reference      {}",
+            words(found),
+            words(expected)
         ))
     }
+}
+
+/// A result, its place and its two further numbers.
+fn words((result, place, first, second): (u32, u64, u64, u64)) -> String {
+    let word = |number| match number {
+        BEFORE => "-".to_string(),
+        number => number.to_string(),
+    };
+    let (place, first, second) = (word(place), word(first), word(second));
+    format!("result {result}, place {place}, numbers {first} {second} (-: not written)")
 }
 
 impl Default for Numbers {

@@ -105,10 +105,10 @@ fn shrink(mut case: Case, mut fails: impl FnMut(&Case) -> bool) -> Case {
             if fails(&smaller) {
                 case = smaller;
             } else {
-                at += size;
+                at += if size > 9 { size } else { 1 };
             }
         }
-        size /= 2;
+        size = if size > 9 { size / 2 } else { size - 1 };
     }
     case
 }

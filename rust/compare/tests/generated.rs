@@ -16,6 +16,7 @@ const LONGER: u64 = 1_500;
 const HUNDREDS: u64 = 1_500;
 const THOUSANDS: u64 = 120;
 const NEAR_BOUND: u64 = 400;
+const LONG_NAMES: u64 = 4_000;
 const LONG_TEXTS: u64 = 300;
 
 const _: () = assert!(SOUND + SPOILT + LINES + WILD + COMPLETE + LANGUAGES + TEXTS >= 200_000);
@@ -136,6 +137,16 @@ fn files_near_the_bound() {
         let file = files::near_bound(random);
         files::asked(file, 2, random)
     });
+}
+
+#[test]
+fn long_names() {
+    let outcomes: &[(_, &[u32])] = &[
+        ("check", &[0, 1, 5]),
+        ("lookup", &[0, 7, 8]),
+        ("choose", &[0, 7, 8]),
+    ];
+    run("long_names", LONG_NAMES, outcomes, files::long_names);
 }
 
 #[test]
