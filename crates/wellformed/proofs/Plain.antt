@@ -89,46 +89,74 @@ module _ (file : List ℕ) where
       let l : length (take key (part p e file)) ≡ key = length-take-le key (part p e file) (omega arith) in
       rw i at (k (rw i (omega (arith, l, b .0))))
 
-  -- ---- the first pass: doubt says that a postfixed key did not follow its plain key
+  -- ---- the first pass: want is the plain key that is still to come, doubt says that a postfixed key has another place
 
-  pub record Plain (p : ℕ) (group last : List ℕ) (doubt : Bool) : Type 0 where
+  pub record Plain (p : ℕ) (group last want : List ℕ) (doubt : Bool) : Type 0 where
     pub known : 0 < length last → has (readRows file) (Key group last) ≡ true
-    pub settled : doubt ≡ false → any (noPlain (readRows file)) (readRows (take p file)) ≡ false
+    pub settled : doubt ≡ false → (0 < length want → has (readRows file) (Key group want) ≡ true) → any (noPlain (readRows file)) (readRows (take p file)) ≡ false
 
-  pub plain-start : Plain 0 [] [] false
+  -- no plain key is still to come
+  empty : (group want : List ℕ) → length want ≡ 0 → 0 < length want → has (readRows file) (Key group want) ≡ true
+  empty group want e h = absurd (omega arith)
+
+  pub plain-start : Plain 0 [] [] [] false
   unfolding readRows rows rowsFrom any
-  plain-start = record { known = λ h. absurd (omega arith); settled = λ e. refl }
+  plain-start = record { known = λ z. absurd (omega arith); settled = λ e k. refl }
 
-  pub plain-end : {p n : ℕ} {group last : List ℕ} → Prefix file p n group → Plain p group last false → length file ≤ p → given tt ≡ plainAll (readRows file)
+  pub plain-end : {p n : ℕ} {group last want : List ℕ} → Prefix file p n group → Plain p group last want false → length want ≡ 0 → length file ≤ p → given tt ≡ plainAll (readRows file)
   unfolding plainAll
-  plain-end {p} w k h = rw (first-none (noPlain (readRows file)) (readRows file) (ap (any (noPlain (readRows file))) (prefix-end w h) ∙ k .settled refl))
+  plain-end {p} {n} {group} {last} {want} w k z h =
+      rw (first-none (noPlain (readRows file)) (readRows file) (ap (any (noPlain (readRows file))) (prefix-end w h) ∙ k .settled refl (empty group want z)))
 
-  module _ {p n : ℕ} {group last : List ℕ} {doubt : Bool} (w : Prefix file p n group) (k : Plain p group last doubt) {e : ℕ} (h : p < length file) (q : e ≡ p + lineLength (drop p file)) where
-    more : noPlain (readRows file) (rowAt file n p e group) ≡ false → doubt ≡ false → any (noPlain (readRows file)) (readRows (take (e + 1) file)) ≡ false
-    more y d = rw (prefix-read w h q, any-last (noPlain (readRows file)) (readRows (take p file)) (rowAt file n p e group), k .settled d, y)
+  module _ {p n : ℕ} {group last want : List ℕ} {doubt : Bool} (w : Prefix file p n group) (k : Plain p group last want doubt) {e : ℕ} (h : p < length file) (q : e ≡ p + lineLength (drop p file)) where
+    more : doubt ≡ false → (0 < length want → has (readRows file) (Key group want) ≡ true) → noPlain (readRows file) (rowAt file n p e group) ≡ false
+        → any (noPlain (readRows file)) (readRows (take (e + 1) file)) ≡ false
+    more d z y = rw (prefix-read w h q, any-last (noPlain (readRows file)) (readRows (take p file)) (rowAt file n p e group), k .settled d z, y)
 
-    pub plain-blank : Blank ≡ readLine (part p e file) → Plain (e + 1) group last doubt
-    plain-blank x = record { known = k .known; settled = more (other-asks w h q Blank x refl) }
+    pub plain-blank : Blank ≡ readLine (part p e file) → Plain (e + 1) group last want doubt
+    plain-blank x = record { known = k .known; settled = λ d z. more d z (other-asks w h q Blank x refl) }
 
-    pub plain-comment : Comment ≡ readLine (part p e file) → Plain (e + 1) group last doubt
-    plain-comment x = record { known = k .known; settled = more (other-asks w h q Comment x refl) }
+    pub plain-comment : Comment ≡ readLine (part p e file) → Plain (e + 1) group last want doubt
+    plain-comment x = record { known = k .known; settled = λ d z. more d z (other-asks w h q Comment x refl) }
 
-    pub plain-header : {end : ℕ} → Header end ≡ readLine (part p e file) → Plain (e + 1) (part 1 end (part p e file)) [] doubt
-    plain-header {end} x = record { known = λ z. absurd (omega arith); settled = more (other-asks w h q (Header end) x refl) }
+    module _ {end : ℕ} (x : Header end ≡ readLine (part p e file)) where
+      pub plain-header : length want ≡ 0 → Plain (e + 1) (part 1 end (part p e file)) [] want doubt
+      plain-header i = record { known = λ z. absurd (omega arith); settled = λ d z. more d (empty group want i) (other-asks w h q (Header end) x refl) }
+
+      pub plain-left : Plain (e + 1) (part 1 end (part p e file)) [] [] true
+      plain-left = record { known = λ z. absurd (omega arith); settled = λ d z. no (cc) }
 
     module _ {key name value : ℕ} (x : Entry key name value ≡ readLine (part p e file)) where
-      pub plain-own : key ≡ name → Plain (e + 1) group (take key (part p e file)) doubt
-      plain-own i =
-          let y = plain-there w h q x i in
-          record { known = λ z. y; settled = more (entry-asks w h q x ∙ rw y) }
+      -- a plain key
+      module _ (i : key ≡ name) where
+        pub plain-own : Plain (e + 1) group (take key (part p e file)) want doubt
+        plain-own =
+            let y = plain-there w h q x i in
+            record { known = λ z. y; settled = λ d z. more d z (entry-asks w h q x ∙ rw y) }
 
-      pub plain-last : true ≡ same last (take key (part p e file)) → Plain (e + 1) group last doubt
+        pub plain-come : true ≡ same want (take key (part p e file)) → Plain (e + 1) group (take key (part p e file)) [] doubt
+        plain-come s =
+            let y = plain-there w h q x i in
+            let j : want ≡ take key (part p e file) = same-true want (take key (part p e file)) (sym s) in
+            record { known = λ z. y; settled = λ d z. more d (λ l. rw j y) (entry-asks w h q x ∙ rw y) }
+
+      -- a postfixed key
+      pub plain-last : true ≡ same last (take key (part p e file)) → Plain (e + 1) group last want doubt
       plain-last y =
           let z = last-is group last h q x (k .known) y in
-          record { known = k .known; settled = more (entry-asks w h q x ∙ rw z) }
+          record { known = k .known; settled = λ d v. more d v (entry-asks w h q x ∙ rw z) }
 
-      pub plain-doubt : Plain (e + 1) group last true
-      plain-doubt = record { known = k .known; settled = λ z. no (cc) }
+      pub plain-again : true ≡ same want (take key (part p e file)) → Plain (e + 1) group last want doubt
+      plain-again y = record { known = k .known; settled = λ d v. more d v (let z = last-is group want h q x v y in entry-asks w h q x ∙ rw z) }
+
+      pub plain-first : length want ≡ 0 → Plain (e + 1) group last (take key (part p e file)) doubt
+      plain-first i =
+          let b = rw (← x) at (line-within (part p e file)) in
+          let l : length (take key (part p e file)) ≡ key = length-take-le key (part p e file) (omega arith) in
+          record { known = k .known; settled = λ d v. more d (empty group want i) (let z = v (omega (arith, l, b .0)) in entry-asks w h q x ∙ rw z) }
+
+      pub plain-doubt : Plain (e + 1) group last want true
+      plain-doubt = record { known = k .known; settled = λ d v. no (cc) }
 
   -- ---- the second pass
 

@@ -103,7 +103,8 @@ fn entry(
     Verdict::Fine
 }
 
-// The first pass: every line is read once. The table of marks may hold anything.
+// The first pass: every line is read once. The table of marks may hold anything. A postfixed key either follows its plain key (`last`) or
+// comes before it (`want` is the plain key that is still to come); any other order is left in doubt.
 fn scan(file: &[u8], leading: &[u8], marks: &mut [u64]) -> Scanned
     requires { ⌜ 0 < length (now marks) ⌝ }
     ensures { λ r. ⌜ (pass.scanned r ≡ pass.titledAs (now (leading .entry)) (readRows (now (file .entry)))) × pass.Settles r (readRows (now (file .entry))) ⌝ }
@@ -113,6 +114,7 @@ fn scan(file: &[u8], leading: &[u8], marks: &mut [u64]) -> Scanned
     let mut tag: u64 = 0;
     let mut group = &file[..0];
     let mut last = &file[..0];
+    let mut want = &file[..0];
     let mut doubt = false;
     while p < file.len() {
         let e = rows::line_end(file, p);
@@ -136,8 +138,15 @@ fn scan(file: &[u8], leading: &[u8], marks: &mut [u64]) -> Scanned
                         group = name;
                         last = &file[..0];
                         tag = tag % 65535 + 1;
-                        p = e + 1;
-                        n += 1;
+                        if want.len() == 0 {
+                            p = e + 1;
+                            n += 1;
+                        } else {
+                            want = &file[..0];
+                            doubt = true;
+                            p = e + 1;
+                            n += 1;
+                        }
                     }
                 }
             }
@@ -151,17 +160,35 @@ fn scan(file: &[u8], leading: &[u8], marks: &mut [u64]) -> Scanned
                 Verdict::Fine => {
                     let x = &l[..key];
                     if key == name {
-                        last = x;
-                        p = e + 1;
-                        n += 1;
+                        if rows::same(want, x) {
+                            want = &file[..0];
+                            last = x;
+                            p = e + 1;
+                            n += 1;
+                        } else {
+                            last = x;
+                            p = e + 1;
+                            n += 1;
+                        }
                     } else {
                         if rows::same(last, x) {
                             p = e + 1;
                             n += 1;
                         } else {
-                            doubt = true;
-                            p = e + 1;
-                            n += 1;
+                            if rows::same(want, x) {
+                                p = e + 1;
+                                n += 1;
+                            } else {
+                                if want.len() == 0 {
+                                    want = x;
+                                    p = e + 1;
+                                    n += 1;
+                                } else {
+                                    doubt = true;
+                                    p = e + 1;
+                                    n += 1;
+                                }
+                            }
                         }
                     }
                 }
@@ -172,6 +199,9 @@ fn scan(file: &[u8], leading: &[u8], marks: &mut [u64]) -> Scanned
         return Scanned::Refused(Fault::FirstGroup { line: 0 });
     }
     if doubt {
+        return Scanned::Doubtful;
+    }
+    if want.len() != 0 {
         return Scanned::Doubtful;
     }
     Scanned::Settled

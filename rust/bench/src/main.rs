@@ -70,7 +70,7 @@ fn main() {
     agree(&real.0);
     agree(&short.0);
     println!();
-    println!("| input | call | kveldrim, µs a file | GLib, µs a file | GLib / kveldrim |");
+    println!("| input | call | Kveldrim, µs a file | GLib, µs a file | GLib / Kveldrim |");
     println!("|---|---|---:|---:|---:|");
     if !real.0.is_empty() {
         table("real files", &real.0);

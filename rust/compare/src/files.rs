@@ -267,8 +267,10 @@ enum Names {
     Short,
     Groups,
     SameEnds,
+    SameEndGroups,
     Anagrams,
     Postfixes,
+    Blocks,
 }
 
 /// A long file with very many names; one of them may stand twice, far apart, or a plain key may be missing.
@@ -278,8 +280,10 @@ pub fn many_names(random: &mut Random, most: usize) -> Vec<u8> {
         Names::Short,
         Names::Groups,
         Names::SameEnds,
+        Names::SameEndGroups,
         Names::Anagrams,
         Names::Postfixes,
+        Names::Blocks,
     ];
     let kind = kinds[random.below(kinds.len())];
     let mut lines = Vec::new();
@@ -306,7 +310,11 @@ pub fn many_names(random: &mut Random, most: usize) -> Vec<u8> {
         3 => lines.insert(other, b"[Other group]\n".to_vec()),
         _ => {}
     }
-    [HEADER, &lines.concat()].concat()
+    let mut file = [HEADER, &lines.concat()].concat();
+    if random.once_in(4) {
+        spoil(&mut file, random);
+    }
+    file
 }
 
 /// The number-th line of its kind; all of a kind differ.
@@ -314,11 +322,12 @@ fn numbered(kind: Names, number: usize) -> Vec<u8> {
     match kind {
         Names::Short => [&counted(number)[..], b"=\n"].concat(),
         Names::Groups => [b"[", &counted(number)[..], b"]\n"].concat(),
-        // Long keys that share their first, middle and last bytes.
+        // Long keys that share their first, middle and last bytes; every other one has a postfix.
         Names::SameEnds => {
-            let name = format!("Shared-start{number:04}shared-middle{number:04}shared-end=\n");
-            name.into()
+            let postfix = ["", "[de]"][number % 2];
+            format!("{}{postfix}=\n", same_ends(number / 2)).into()
         }
+        Names::SameEndGroups => format!("[{}]\n", same_ends(number)).into(),
         // The same letters in another order.
         Names::Anagrams => {
             let mut left = b"abcdefgh".to_vec();
@@ -341,7 +350,13 @@ fn numbered(kind: Names, number: usize) -> Vec<u8> {
                 _ => [&name[..], b"[", &b"abcdefgh"[..postfix], b"]=\n"].concat(),
             }
         }
+        // Groups with the same keys.
+        Names::Blocks => [b"[", &counted(number)[..], b"]\nName[de]=\nName=\n"].concat(),
     }
+}
+
+fn same_ends(number: usize) -> String {
+    format!("Shared-start{number:04}shared-middle{number:04}shared-end")
 }
 
 /// A number as the shortest key: all of one byte, then all of two, and so on.

@@ -13,8 +13,8 @@ const COMPLETE: u64 = 40_000;
 const LANGUAGES: u64 = 40_000;
 const TEXTS: u64 = 120_000;
 const LONGER: u64 = 1_500;
-const HUNDREDS: u64 = 1_500;
-const THOUSANDS: u64 = 120;
+const HUNDREDS: u64 = 2_000;
+const THOUSANDS: u64 = 200;
 const NEAR_BOUND: u64 = 400;
 const LONG_NAMES: u64 = 4_000;
 const LONG_TEXTS: u64 = 300;
@@ -102,7 +102,7 @@ fn languages() {
 
 #[test]
 fn longer_files() {
-    let outcomes: &[(_, &[u32])] = &[("check", &[0, 2, 4, 5, 6]), ("lookup", &[0, 8])];
+    let outcomes: &[(_, &[u32])] = &[("check", &[0, 2, 5, 6]), ("lookup", &[0, 8])];
     run("longer_files", LONGER, outcomes, |random| {
         let mut file = files::sound(random, 30, 40);
         if random.once_in(2) {
