@@ -9,6 +9,7 @@ use std::env;
 use std::ffi::{OsStr, OsString};
 use std::fs::File;
 use std::io::{self, Read, Write};
+use std::ops::Range;
 use std::os::unix::ffi::OsStrExt;
 use std::process::ExitCode;
 
@@ -68,13 +69,13 @@ fn each(files: &[OsString], ask: impl Fn(&OsStr, &[u8]) -> Result<(), Trouble>) 
 
 fn get(wanted: &Wanted) -> ExitCode {
     let answer = read(&wanted.file).and_then(|bytes| {
-        let from = find(wanted, &bytes)?;
-        let raw = &bytes[from.clone()];
+        let ends = find(wanted, &bytes)?;
+        let raw = &bytes[ends.clone()];
         if wanted.raw {
             return Ok([raw, b"\n"].concat());
         }
         let mut text = kveldrim::read_text_vec(raw)
-            .map_err(|refusal| Trouble::of_value(wanted, &bytes, from.start, refusal))?;
+            .map_err(|refusal| Trouble::of_value(wanted, &bytes, ends.start, refusal))?;
         text.push(b'\n');
         Ok(text)
     });
@@ -83,9 +84,9 @@ fn get(wanted: &Wanted) -> ExitCode {
 
 fn list(wanted: &Wanted) -> ExitCode {
     let answer = read(&wanted.file).and_then(|bytes| {
-        let from = find(wanted, &bytes)?;
-        let elements = kveldrim::read_list_vec(&bytes[from.clone()])
-            .map_err(|refusal| Trouble::of_value(wanted, &bytes, from.start, refusal))?;
+        let ends = find(wanted, &bytes)?;
+        let elements = kveldrim::read_list_vec(&bytes[ends.clone()])
+            .map_err(|refusal| Trouble::of_value(wanted, &bytes, ends.start, refusal))?;
         let lines = elements
             .into_iter()
             .flat_map(|element| [element, b"\n".to_vec()]);
@@ -95,7 +96,7 @@ fn list(wanted: &Wanted) -> ExitCode {
 }
 
 /// Where the raw value stands that is wanted: by its locale, or just by its key.
-fn find(wanted: &Wanted, file: &[u8]) -> Result<std::ops::Range<usize>, Trouble> {
+fn find(wanted: &Wanted, file: &[u8]) -> Result<Range<usize>, Trouble> {
     let (group, key) = (wanted.group.as_bytes(), wanted.key.as_bytes());
     let found = match &wanted.locale {
         None => kveldrim::lookup_ends(file, group, key),

@@ -173,7 +173,7 @@ pub fn spoil(file: &mut Vec<u8>, random: &mut Random) {
         lines.insert(before, line.to_vec());
         lines.concat()
     };
-    match random.below(14) {
+    match random.below(15) {
         0 => file[at] = random.byte_of(BORDERS),
         1 => file[at] = random.number() as u8,
         2 => file.insert(at, random.byte_of(BORDERS)),
@@ -201,6 +201,7 @@ pub fn spoil(file: &mut Vec<u8>, random: &mut Random) {
             let line = line(random);
             *file = put_line(&line, other);
         }
+        13 => drop(file.splice(at..at, random.pick(&MULLER).bytes())),
         _ => drop(file.splice(0..0, "\u{FEFF}".bytes())),
     }
 }
@@ -526,7 +527,9 @@ fn ask(file: &[u8], random: &mut Random) -> Ask {
         5 => key = pieces::key(random),
         6 => group.push(random.byte_of(BORDERS)),
         7 | 8 => key.extend([b"[", &pieces::locale(random)[..], b"]"].concat()),
-        9 => key.extend([b"[", &pieces::wrong_locale(random)[..], b"]"].concat()),
+        9 => key = random.pick(&MULLER).into(),
+        10 => group = random.pick(&MULLER).into(),
+        11 => key.extend([b"[", &pieces::wrong_locale(random)[..], b"]"].concat()),
         _ => {}
     }
     let locale = match random.below(10) {

@@ -1,4 +1,4 @@
-//! READINGS, parts 1 to 7 and A6.1: each test is named by its entry.
+//! The readings of the rules (docs/DECISIONS.md), parts 1 to 7, and the place of a bad byte: each test is named by its entry.
 
 use crate::common::*;
 use reference::{
