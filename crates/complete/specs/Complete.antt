@@ -8,12 +8,8 @@ use Rattle.base.specs.Lists.{ascii, same, any, first}
 use Rattle.fault.specs.declared.Fault.the-variants.{Incomplete}
 use Rattle.fault.specs.Answer.{Answer, given, refused, _>>=_, need, some-or}
 use Rattle.rows.specs.Rows.{Row, lineOf}
-use Rattle.rows.specs.Title.{Title, Key, title, sameTitle, findRow, has}
+use Rattle.rows.specs.Title.{desktopEntry, Title, Key, title, sameTitle, findRow, has}
 use Rattle.rows.specs.Find.{valueStart}
-
--- the group's name
-abbrev pub desktopEntry : List ℕ
-desktopEntry = ascii "Desktop Entry"
 
 -- a plain key of Desktop Entry
 abbrev pub main : List ℕ → Title

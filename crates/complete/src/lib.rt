@@ -9,6 +9,7 @@ ghost use lib.ListN.{length};
 ghost use Rattle.base.specs.Lists.{same, part};
 ghost use Rattle.line.specs.Line.{readLine};
 ghost use Rattle.rows.specs.Rows.{readRows};
+ghost use Rattle.rows.specs.Title as title;
 ghost use Rattle.rows.specs.Title.{has};
 ghost use Rattle.rows.specs.Find.{noneBad};
 ghost use Rattle.complete.specs.Complete as spec;
@@ -130,7 +131,7 @@ fn is_wrong(l: &[u8]) -> bool
 // Whether a header's name is Desktop Entry.
 fn is_desktop_entry(l: &[u8]) -> bool
     requires { ⌜ 2 ≤ length (now l) ⌝ }
-    ensures { λ r. ⌜ r ≡ same spec.desktopEntry (part 1 (length (now (l .entry)) - 1) (now (l .entry))) ⌝ }
+    ensures { λ r. ⌜ r ≡ same title.desktopEntry (part 1 (length (now (l .entry)) - 1) (now (l .entry))) ⌝ }
 {
     let t = l.len() - 1;
     rows::same(b"Desktop Entry", &l[1..t])

@@ -18,9 +18,9 @@ use Rattle.text.specs.Class.{keyByte}
 use Rattle.line.specs.Line.{isBad}
 use Rattle.line.specs.Form.{groupForm, keyForm, plainForm, localeForm}
 use Rattle.rows.specs.Rows.{Row, readRows}
-use Rattle.rows.specs.Title.{Title, Key, title, sameTitle, titles, findRow, has}
+use Rattle.rows.specs.Title.{desktopEntry, Title, Key, title, sameTitle, titles, findRow, has}
 use Rattle.rows.proofs.Titles.{found-title}
-use Rattle.wellformed.specs.Check.{check, desktopEntry, plainOf, plainTitle, wanted, noPlain}
+use Rattle.wellformed.specs.Check.{check, plainOf, plainTitle, wanted, noPlain}
 use Rattle.wellformed.specs.WellFormed.{leads, distinct, wellFormedAs, wellFormed, CheckAccepts}
 use Rattle.wellformed.proofs.Accepts.{check-accepts}
 use Rattle.choice.specs.Locale.{candidates, postfixed, firstKey, chosen}

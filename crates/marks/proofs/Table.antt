@@ -10,7 +10,7 @@ use lib.Bits.{bitAnd, bitOr, and-step, or-step, and-self, and-zero-r, or-comm, a
 use lib.Dec.{eqb}
 use lib.ListN.{length, getD, set, length-set}
 use lib.Seq.{getD-set-same, getD-set-other}
-use Rattle.marks.specs.Marks.{hashOf, mixOf, wordOf, hasBits, nameWord, nameBits, marked, withMark}
+use Rattle.marks.specs.Marks.{hashOf, mixOf, hasBits, nameWord, nameBits, marked, withMark}
 
 -- ---- in a word
 

@@ -2,33 +2,23 @@
 -- Assumes nothing.
 use Prim.Native.Nat.{ℕ, _+_, _-_, _*_, _/_, _%_, _^_}
 use mathlib.Core.Bool.{Bool}
-use mathlib.Core.List.{List}
+use mathlib.Core.List.{List, [], _∷_}
 use lib.Bits.{bitAnd, bitOr}
-use lib.Dec.{eqb, ltb}
+use lib.Dec.{eqb}
 use lib.ListN.{length, getD, set}
-use Rattle.base.specs.Choice.{pick}
 
--- four bytes as a number
-abbrev pub word4 : List ℕ → ℕ → ℕ
-word4 x i = getD x i 0 + getD x (i + 1) 0 * 256 + getD x (i + 2) 0 * 65536 + getD x (i + 3) 0 * 16777216
+-- a hash and one byte more
+abbrev pub hashByte : ℕ → ℕ → ℕ
+hashByte h b = h % 4294967296 * 16777619 + b
 
--- the hash of up to three bytes: all of them, and the length
-abbrev pub hash3 : List ℕ → ℕ
-hash3 x = (getD x 0 0 + getD x 1 0 * 256 + getD x 2 0 * 65536) * 374761393 + length x % 256 * 510351277
-
--- of four to seven: the first and the last four
-abbrev pub hash7 : List ℕ → ℕ
-hash7 x = word4 x 0 * 374761393 + word4 x (length x - 4) * 436650469 + length x % 256 * 510351277
-
--- of more: eight from each end and four in the middle
-abbrev pub hash8 : List ℕ → ℕ
-hash8 x =
-    word4 x 0 * 374761393 + word4 x 4 * 268582165 + word4 x (length x / 2 - 2) * 327874087 + word4 x (length x - 8) * 492876847
-    + word4 x (length x - 4) * 436650469 + length x % 256 * 510351277
+-- the hash of bytes that follow others with the hash h
+unfoldable pub hashFrom : List ℕ → ℕ → ℕ
+hashFrom [] h = h
+hashFrom (b ∷ bs) h = hashFrom bs (hashByte h b)
 
 -- the hash of a name
-unfoldable pub hashOf : List ℕ → ℕ
-hashOf x = pick (ltb (length x) 4) (hash3 x) (pick (ltb (length x) 8) (hash7 x) (hash8 x))
+abbrev pub hashOf : List ℕ → ℕ
+hashOf x = hashFrom x 2166136261
 
 -- a hash mixed with the number of a group
 abbrev pub mixOf : ℕ → ℕ → ℕ

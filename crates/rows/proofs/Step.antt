@@ -3,14 +3,15 @@ use mathlib.Core.Path.{_≡_, refl, sym, ap, _∙_}
 use Prim.Native.Nat.{ℕ, suc, _+_, _-_, _≤_, _<_, zero-le, suc-le-suc}
 use native.Mathlib.Numerals.{add-one}
 use native.Mathlib.Omega.{arith}
-use mathlib.Core.Bool.{Bool, true, false}
+use mathlib.Core.Bool.{Bool, true, false, not}
 use mathlib.Core.List.{List, [], _∷_, _++_, append-assoc, append-nil}
 use lib.ListN.{length, getD, take, drop, length-append, length-drop, take-append-drop}
 use lib.Seq.{take-all, take-add, drop-drop, length-take-le}
 use lib.Dec.{eqb, ltb}
 use borrow.Author.Tests.{eq-eqb, ne-eqb, eqb-true, ltb-true, ltb-false}
 use Rattle.base.specs.Choice.{pick}
-use Rattle.base.specs.Lists.{part, before, joined}
+use Rattle.base.specs.Lists.{part, before, joined, span, all}
+use Rattle.base.proofs.Span.{span-skip}
 use Rattle.base.proofs.Scan.{here, done}
 use Rattle.base.proofs.Lists.{length-part}
 use Rattle.base.proofs.Tests.{by-test}
@@ -18,7 +19,7 @@ use Rattle.base.proofs.Clean.{Clean}
 use Rattle.line.specs.Line.{readLine}
 use Rattle.rows.specs.Rows.{Row, rows, lineOf, groupAfter, rowsFrom, readRows}
 use Rattle.rows.specs.Title.{Title, titleOf, title, seeing, titles}
-use Rattle.rows.specs.Find.{lineLength}
+use Rattle.rows.specs.Find.{noLF, lineLength}
 use Rattle.rows.proofs.Rows.{joined-rows, rows-full, groupEnd, group-append, rows-from}
 use Rattle.rows.proofs.Titles.{titles-append}
 
@@ -45,6 +46,21 @@ line-ends s i h e = rw (here s i h, eq-eqb _ _ e)
 pub line-goes : (s : List ℕ) (i : ℕ) → i < length s → (getD s i 0 ≡ 10 → ⊥) → lineLength (drop i s) ≡ suc (lineLength (drop (i + 1) s))
 unfolding lineLength
 line-goes s i h e = rw (here s i h, ne-eqb _ _ e)
+
+-- as a span, and past bytes that are no LF
+line-span : (s : List ℕ) → lineLength s ≡ span noLF s
+unfolding lineLength span
+line-span [] = refl
+line-span (b ∷ s) = go (eqb b 10) (line-span s)
+  where
+    go : (t : Bool) → lineLength s ≡ span noLF s → pick t 0 (suc (lineLength s)) ≡ pick (not t) (suc (span noLF s)) 0
+    go true e = refl
+    go false e = ap suc e
+
+pub line-skip : (n i : ℕ) (s : List ℕ) → i + n ≤ length s → all noLF (take n (drop i s)) ≡ true → lineLength (drop i s) ≡ n + lineLength (drop (i + n) s)
+line-skip n i s h e =
+    line-span (drop i s) ∙ span-skip noLF n (drop i s) (simp length-drop (omega arith)) e
+    ∙ ap (λ (m : ℕ). n + m) (ap (span noLF) (drop-drop n i s) ∙ sym (line-span (drop (i + n) s)))
 
 -- it has no LF
 first-clean : (s : List ℕ) → Clean (take (lineLength s) s)

@@ -17,6 +17,10 @@ use Rattle.rows.specs.Rows.{Row, lineOf, readRows}
 use Rattle.rows.specs.declared.Found.{Found}
 use Rattle.rows.specs.declared.Found.the-variants as found
 
+-- a byte of a line: any but LF
+abbrev pub noLF : ℕ → Bool
+noLF b = not (eqb b (code "\n"))
+
 -- the length of the first line, without its LF
 unfoldable pub lineLength : List ℕ → ℕ
 lineLength [] = 0

@@ -6,11 +6,16 @@ use mathlib.Core.Option.{Option}
 use mathlib.Core.List.{List, [], _∷_}
 use lib.ListN.{take}
 use Rattle.base.specs.Choice.{there}
-use Rattle.base.specs.Lists.{same, first}
+use Rattle.base.specs.Lists.{ascii, same, first}
 use Rattle.line.specs.declared.Line.{Line}
 use Rattle.line.specs.declared.Line.the-variants.{Blank, Comment, Header, Entry, Bad}
 use Rattle.rows.specs.Rows.{Row, lineOf}
 
+-- the group that comes first
+abbrev pub desktopEntry : List ℕ
+desktopEntry = ascii "Desktop Entry"
+
+-- what a row names
 pub data Title : Type 0 where
   Nameless : Title
   Group : List ℕ → Title

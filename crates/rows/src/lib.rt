@@ -4,14 +4,14 @@ use line::Named;
 ghost use mathlib.Core.Path.{_≡_};
 ghost use mathlib.Core.Bool.{true};
 ghost use Prim.Native.Nat.{_+_, _≤_};
-ghost use lib.ListN.{length, drop};
+ghost use lib.ListN.{length, take, drop};
 ghost use Rattle.base.specs.Lists as lists;
 ghost use Rattle.line.specs.Name.{byteAt, readName};
 ghost use Rattle.line.specs.Line.{readLine};
 ghost use lib.Dec.{eqb};
 ghost use Rattle.rows.specs.Rows.{readRows};
 ghost use Rattle.rows.specs.Title as title;
-ghost use Rattle.rows.specs.Find.{lineLength, valueStart, noneBad, toldOf, namedAs};
+ghost use Rattle.rows.specs.Find.{noLF, lineLength, valueStart, noneBad, toldOf, namedAs};
 
 // A row of a file: its number, where it starts, where its line ends, where its value starts (an entry's; else the row's start).
 pub enum Found {
@@ -24,10 +24,10 @@ pub enum Found {
     Nothing,
 }
 
-// Whether none of sixteen bytes is an LF. It may say no where there is none.
+// Whether none of sixteen bytes is an LF. The loop has no way out, so that it becomes one comparison of sixteen bytes.
 fn clear(s: &[u8], i: usize) -> bool
     requires { ⌜ i + 16 ≤ length (now s) ⌝ }
-    ensures { λ r. ⌜ (r ≡ true → lineLength (drop i (now (s .entry))) ≡ 16 + lineLength (drop (i + 16) (now (s .entry)))) ⌝ }
+    ensures { λ r. ⌜ r ≡ lists.all noLF (take 16 (drop i (now (s .entry)))) ⌝ }
 {
     let mut n: u8 = 0;
     let mut j = 0;

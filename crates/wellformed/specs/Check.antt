@@ -14,15 +14,11 @@ use Rattle.text.specs.Class.{keyByte}
 use Rattle.line.specs.declared.Line.{Line}
 use Rattle.line.specs.declared.Line.the-variants.{Blank, Comment, Header, Entry, Bad}
 use Rattle.rows.specs.Rows.{Row, readRows}
-use Rattle.rows.specs.Title.{Title, Nameless, Group, Key, title, sameTitle, seeing, has}
+use Rattle.rows.specs.Title.{desktopEntry, Title, Nameless, Group, Key, title, sameTitle, seeing, has}
 
 -- the most bytes a file has
 abbrev pub fileMost : ℕ
 fileMost = 32768
-
--- the group that comes first
-abbrev pub desktopEntry : List ℕ
-desktopEntry = ascii "Desktop Entry"
 
 -- A title after those seen: the first must be the group named, and none comes twice.
 unfoldable pub titleFault : List ℕ → List Title → Title → ℕ → Fault → Option Fault

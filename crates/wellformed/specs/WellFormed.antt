@@ -9,8 +9,8 @@ use Rattle.base.specs.Lists.{any}
 use Rattle.fault.specs.Answer.{accepted}
 use Rattle.line.specs.Line.{isBad}
 use Rattle.rows.specs.Rows.{Row, readRows}
-use Rattle.rows.specs.Title.{Title, Group, sameTitle, titles}
-use Rattle.wellformed.specs.Check.{fileMost, desktopEntry, noPlain, checkAs}
+use Rattle.rows.specs.Title.{desktopEntry, Title, Group, sameTitle, titles}
+use Rattle.wellformed.specs.Check.{fileMost, noPlain, checkAs}
 
 -- the first title is this group's
 abbrev pub leads : List ℕ → List Title → Bool

@@ -5,7 +5,7 @@ use Rattle.entry.specs.Choose.{choose}
 use Rattle.entry.proofs.Lookups.{ends-answer}
 use Rattle.wellformed.specs.Pass as pass
 use Rattle.wellformed.proofs.Accepts.{check-good}
-use Rattle.wellformed.specs.Check.{desktopEntry}
+use Rattle.rows.specs.Title.{desktopEntry}
 use Rattle.rows.specs.Rows.{readRows}
 use Rattle.choice.specs.Locale.{chosen}
 use borrow.Author.Needs.{needs}

@@ -7,26 +7,7 @@ pub ends-of-spec : {M : Type 1} → statement M
 ends-of-spec =
     tie.close
     (tie.spec
-    (λ
-    c.
-    search
-    needs)
-    (λ
-    c.
-    search
-    needs)
-    (λ
-    c.
-    rw
-    (c
-    .before
-    .f
-    .given
-    .1))
-    (λ
-    c.
-    rw
-    (c
-    .enum-told
-    .given
-    .1)))
+    (λ c. search needs)
+    (λ c. search needs)
+    (λ c. rw (c .before .f .given .1))
+    (λ c. rw (c .enum-told .given .1)))

@@ -2,7 +2,7 @@
 use mathlib.Core.Path.{sym, ap, _∙_}
 use Rattle.wellformed.specs.Pass as pass
 use Rattle.wellformed.proofs.Accepts.{check-good}
-use Rattle.wellformed.specs.Check.{desktopEntry}
+use Rattle.rows.specs.Title.{desktopEntry}
 use Rattle.entry.specs.Complete.{complete}
 use Rattle.complete.specs.Step.{completed}
 use borrow.Author.Needs.{needs}

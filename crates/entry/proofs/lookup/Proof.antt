@@ -26,57 +26,12 @@ pub lookup-spec : {M : Type 1} → statement M
 lookup-spec =
     tie.close
     (tie.spec
-    (λ
-    c
-    κs.
-    search
-    needs)
-    (λ
-    c.
-    search
-    needs)
-    (λ
-    c.
-    search
-    needs)
-    (λ
-    c.
-    search
-    needs)
-    (λ
-    c.
-    rw (
-      ←
-          c
-          .before
-          .before
-          .before
-          .lookup-ends
-          .ensures,
-      c
-          .before
-          .enum-told
-          .given
-          .1,
-    ))
+    (λ c κs. search needs)
+    (λ c. search needs)
+    (λ c. search needs)
+    (λ c. search needs)
+    (λ c. rw (← c .before .before .before .lookup-ends .ensures, c .before .enum-told .given .1))
     sub-result
     part-result-start
     part-result-end
-    (λ
-    c.
-    rw (
-      ←
-          c
-          .before
-          .before
-          .before
-          .before
-          .lookup-ends
-          .ensures,
-      c
-          .before
-          .before
-          .from
-          .given
-          .1,
-    )))
+    (λ c. rw (← c .before .before .before .before .lookup-ends .ensures, c .before .before .from .given .1)))

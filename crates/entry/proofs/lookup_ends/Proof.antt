@@ -4,9 +4,8 @@ use Rattle.entry.specs.Lookup.{lookup, answered, endsOf}
 use Rattle.entry.proofs.Lookups.{ends-answer}
 use Rattle.wellformed.specs.Pass as pass
 use Rattle.wellformed.proofs.Accepts.{check-good}
-use Rattle.wellformed.specs.Check.{desktopEntry}
 use Rattle.rows.specs.Rows.{readRows}
-use Rattle.rows.specs.Title.{Key, findRow}
+use Rattle.rows.specs.Title.{desktopEntry, Key, findRow}
 use borrow.Author.Needs.{needs}
 use Rattle.entry.proofs.lookup_ends.Statement.{statement}
 use Rattle.entry.proofs.lookup_ends.Tie as tie
@@ -34,76 +33,13 @@ pub lookup-ends-spec : {M : Type 1} → statement M
 lookup-ends-spec =
     tie.close
     (tie.spec
-    (λ
-    c
-    κs.
-    search
-    needs)
-    (λ
-    c.
-    search
-    needs)
-    (λ
-    c.
-    search
-    needs)
-    (λ
-    c
-    κs.
-    search
-    needs)
-    (λ
-    c
-    κs.
-    search
-    needs)
-    (λ
-    c
-    κs.
-    check-good
-    desktopEntry
-    (c
-    .before
-    .before
-    .before
-    .before
-    .before
-    .before
-    .before
-    .before
-    .before
-    .before
-    .args
-    .file
-    .now)
-    (sym
-    (sym
-    (c
-    .before
-    .before
-    .before
-    .before
-    .before
-    .before
-    .check
-    .ensures)
-    ∙
-    ap
-    pass.answered
-    (c
-    .before
-    .before
-    .before
-    .before
-    .enum-told
-    .given
-    .1)))
-    .0)
-    (λ
-    c
-    κs.
-    search
-    needs)
+    (λ c κs. search needs)
+    (λ c. search needs)
+    (λ c. search needs)
+    (λ c κs. search needs)
+    (λ c κs. search needs)
+    (λ c κs. check-good desktopEntry (c .before .before .before .before .before .before .before .before .before .before .args .file .now) (sym (sym (c .before .before .before .before .before .before .check .ensures) ∙ ap pass.answered (c .before .before .before .before .enum-told .given .1))) .0)
+    (λ c κs. search needs)
     returns
     returns-2
     returns-3

@@ -37,11 +37,7 @@ pub locale-at-spec : {M : Type 1} → statement M
 locale-at-spec =
     tie.close
     (tie.spec
-    (λ
-    c
-    κs.
-    search
-    needs)
+    (λ c κs. search needs)
     returns
     (λ c. omega (arith, within (c .before .before)))
     returns-2

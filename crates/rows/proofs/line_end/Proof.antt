@@ -1,8 +1,8 @@
 -- `rows::line_end` meets its contract: what is left to find from `i` is the whole answer. Assumes nothing.
-use Rattle.rows.proofs.Step.{line-none}
+use Rattle.rows.proofs.Step.{line-none, line-skip}
 use borrow.Author.Needs.{needs}
 use native.Mathlib.Omega.{arith}
-use mathlib.Core.Path.{_≡_, refl, _∙_}
+use mathlib.Core.Path.{_≡_, refl, sym, _∙_}
 use lib.ListN.{length, drop}
 use Prim.Native.Nat.{_+_, _-_}
 use Rattle.rows.specs.Find.{lineLength}
@@ -14,6 +14,12 @@ Inv-loop s from i₀ i = i + lineLength (drop i s) ≡ from + lineLength (drop f
 
 abbrev μ-loop : tie.MeasureT-loop
 μ-loop s from i₀ i = length s - i
+
+loop-again : tie.Need-loop-again Inv-loop μ-loop
+loop-again c =
+    let l = c .before .before .before .before in
+    let s = l .before .before .args .s .now in
+    omega (arith, l .loop .inv, line-skip 16 (l .loop .i) s (omega arith) (sym (c .before .clear .ensures) ∙ c .if2 .taken))
 
 pub line-end-spec : {M : Type 1} → statement M
 line-end-spec =
@@ -28,7 +34,7 @@ line-end-spec =
     (λ c κs. search needs)
     (λ c. search needs)
     (λ c. search needs)
-    (λ c. omega (arith, c .before .clear .ensures (c .if2 .taken)))
+    loop-again
     (λ c κs. search needs)
     (λ c. c .near-end2 .ensures ∙ c .before .before .before .before .before .loop .inv)
     (λ c. omega (arith, line-none (c .before .before .before .args .s .now) (c .before .loop .i) (c .loop-test .left))))

@@ -39,15 +39,15 @@ part-l-end c =
     let f = c .before .before .before .before .before .before .args .file .now in
     end-le f (search needs) (e .line-end .ensures)
 
-add-p : tie.Need-add-p Inv-loop μ-loop
-add-p c =
+p-fits : tie.Need-add-p Inv-loop μ-loop
+p-fits c =
     let e = c .before .before .before .before in
     let l = e .before .before in
     let f = c .before .before .before .before .before .before .before .before .before .before .args .file .now in
     omega (arith, start-le f {p = l .loop .p} (search needs) (e .line-end .ensures), end-le f {p = l .loop .p} (search needs) (e .line-end .ensures))
 
-add-n : tie.Need-add-n Inv-loop μ-loop
-add-n c =
+n-fits : tie.Need-add-n Inv-loop μ-loop
+n-fits c =
     let e = c .before .before .before .before in
     let l = e .before .before in
     let f = c .before .before .before .before .before .before .before .before .before .before .args .file .now in
@@ -67,15 +67,15 @@ loop-again c =
     let f = c .before .before .before .before .before .before .before .before .before .before .args .file .now in
     asking-blank f (l .loop .inv) (search needs) (e .line-end .ensures) (sym (c .enum-told .given .1) ∙ c .before .before .read-line .ensures)
 
-add-p-2 : tie.Need-add-p-2 Inv-loop μ-loop
-add-p-2 c =
+p-fits-2 : tie.Need-add-p-2 Inv-loop μ-loop
+p-fits-2 c =
     let e = c .before .before .before .before in
     let l = e .before .before in
     let f = c .before .before .before .before .before .before .before .before .before .before .args .file .now in
     omega (arith, start-le f {p = l .loop .p} (search needs) (e .line-end .ensures), end-le f {p = l .loop .p} (search needs) (e .line-end .ensures))
 
-add-n-2 : tie.Need-add-n-2 Inv-loop μ-loop
-add-n-2 c =
+n-fits-2 : tie.Need-add-n-2 Inv-loop μ-loop
+n-fits-2 c =
     let e = c .before .before .before .before in
     let l = e .before .before in
     let f = c .before .before .before .before .before .before .before .before .before .before .args .file .now in
@@ -95,15 +95,15 @@ loop-again-2 c =
     let f = c .before .before .before .before .before .before .before .before .before .before .args .file .now in
     asking-comment f (l .loop .inv) (search needs) (e .line-end .ensures) (sym (c .enum-told2 .given .1) ∙ c .before .before .read-line .ensures)
 
-add-p-3 : tie.Need-add-p-3 Inv-loop μ-loop
-add-p-3 c =
+p-fits-3 : tie.Need-add-p-3 Inv-loop μ-loop
+p-fits-3 c =
     let e = c .before .before .before .before in
     let l = e .before .before in
     let f = c .before .before .before .before .before .before .before .before .before .before .args .file .now in
     omega (arith, start-le f {p = l .loop .p} (search needs) (e .line-end .ensures), end-le f {p = l .loop .p} (search needs) (e .line-end .ensures))
 
-add-n-3 : tie.Need-add-n-3 Inv-loop μ-loop
-add-n-3 c =
+n-fits-3 : tie.Need-add-n-3 Inv-loop μ-loop
+n-fits-3 c =
     let e = c .before .before .before .before in
     let l = e .before .before in
     let f = c .before .before .before .before .before .before .before .before .before .before .args .file .now in
@@ -144,15 +144,15 @@ part-group-end c =
     let f = c .before .before .before .before .before .before .before .before .before .before .before .args .file .now in
     let w = rw (← (sym (c .before .end .given .1) ∙ c .before .before .before .read-line .ensures)) at (line-within (part (l .loop .p) (e .line-end .result) f)) in omega (arith, w .0, w .1)
 
-add-p-4 : tie.Need-add-p-4 Inv-loop μ-loop
-add-p-4 c =
+p-fits-4 : tie.Need-add-p-4 Inv-loop μ-loop
+p-fits-4 c =
     let e = c .before .before .before .before .before .before .before in
     let l = e .before .before in
     let f = c .before .before .before .before .before .before .before .before .before .before .before .before .before .args .file .now in
     omega (arith, start-le f {p = l .loop .p} (search needs) (e .line-end .ensures), end-le f {p = l .loop .p} (search needs) (e .line-end .ensures))
 
-add-n-4 : tie.Need-add-n-4 Inv-loop μ-loop
-add-n-4 c =
+n-fits-4 : tie.Need-add-n-4 Inv-loop μ-loop
+n-fits-4 c =
     let e = c .before .before .before .before .before .before .before in
     let l = e .before .before in
     let f = c .before .before .before .before .before .before .before .before .before .before .before .before .before .args .file .now in
@@ -181,15 +181,15 @@ slice-aggregate-x c =
     let n = length-line f (search needs) (e .line-end .ensures) in
     sym (length-take-le _ (part (l .loop .p) (e .line-end .result) f) (omega (arith, w .1, w .2, w .3)))
 
-add-p-5 : tie.Need-add-p-5 Inv-loop μ-loop
-add-p-5 c =
+p-fits-5 : tie.Need-add-p-5 Inv-loop μ-loop
+p-fits-5 c =
     let e = c .before .before .before .before .before .before .before in
     let l = e .before .before in
     let f = c .before .before .before .before .before .before .before .before .before .before .before .before .before .args .file .now in
     omega (arith, start-le f {p = l .loop .p} (search needs) (e .line-end .ensures), end-le f {p = l .loop .p} (search needs) (e .line-end .ensures))
 
-add-n-5 : tie.Need-add-n-5 Inv-loop μ-loop
-add-n-5 c =
+n-fits-5 : tie.Need-add-n-5 Inv-loop μ-loop
+n-fits-5 c =
     let e = c .before .before .before .before .before .before .before in
     let l = e .before .before in
     let f = c .before .before .before .before .before .before .before .before .before .before .before .before .before .args .file .now in
@@ -209,15 +209,15 @@ loop-again-5 c =
     let f = c .before .before .before .before .before .before .before .before .before .before .before .before .before .args .file .now in
     asking-plain f (l .loop .inv) (search needs) (e .line-end .ensures) (sym (c .before .before .before .key .given .1) ∙ c .before .before .before .before .before .read-line .ensures) (c .if1 .taken)
 
-add-p-6 : tie.Need-add-p-6 Inv-loop μ-loop
-add-p-6 c =
+p-fits-6 : tie.Need-add-p-6 Inv-loop μ-loop
+p-fits-6 c =
     let e = c .before .before .before .before .before .before .before .before .before in
     let l = e .before .before in
     let f = c .before .before .before .before .before .before .before .before .before .before .before .before .before .before .before .args .file .now in
     omega (arith, start-le f {p = l .loop .p} (search needs) (e .line-end .ensures), end-le f {p = l .loop .p} (search needs) (e .line-end .ensures))
 
-add-n-6 : tie.Need-add-n-6 Inv-loop μ-loop
-add-n-6 c =
+n-fits-6 : tie.Need-add-n-6 Inv-loop μ-loop
+n-fits-6 c =
     let e = c .before .before .before .before .before .before .before .before .before in
     let l = e .before .before in
     let f = c .before .before .before .before .before .before .before .before .before .before .before .before .before .before .before .args .file .now in
@@ -237,15 +237,15 @@ loop-again-6 c =
     let f = c .before .before .before .before .before .before .before .before .before .before .before .before .before .before .before .args .file .now in
     asking-last f (l .loop .inv) (search needs) (e .line-end .ensures) (sym (c .before .before .before .before .before .key .given .1) ∙ c .before .before .before .before .before .before .before .read-line .ensures) (sym (c .if2 .taken) ∙ c .before .same .ensures)
 
-add-p-7 : tie.Need-add-p-7 Inv-loop μ-loop
-add-p-7 c =
+p-fits-7 : tie.Need-add-p-7 Inv-loop μ-loop
+p-fits-7 c =
     let e = c .before .before .before .before .before .before .before .before .before .before .before .before in
     let l = e .before .before in
     let f = c .before .before .before .before .before .before .before .before .before .before .before .before .before .before .before .before .before .before .args .file .now in
     omega (arith, start-le f {p = l .loop .p} (search needs) (e .line-end .ensures), end-le f {p = l .loop .p} (search needs) (e .line-end .ensures))
 
-add-n-7 : tie.Need-add-n-7 Inv-loop μ-loop
-add-n-7 c =
+n-fits-7 : tie.Need-add-n-7 Inv-loop μ-loop
+n-fits-7 c =
     let e = c .before .before .before .before .before .before .before .before .before .before .before .before in
     let l = e .before .before in
     let f = c .before .before .before .before .before .before .before .before .before .before .before .before .before .before .before .before .before .before .args .file .now in
@@ -287,18 +287,18 @@ plain-keys-spec =
     part-l-end
     (λ c κs. search needs)
     (λ c. search needs)
-    add-p
-    add-n
+    p-fits
+    n-fits
     loop-less
     loop-again
     (λ c. search needs)
-    add-p-2
-    add-n-2
+    p-fits-2
+    n-fits-2
     loop-less-2
     loop-again-2
     (λ c. search needs)
-    add-p-3
-    add-n-3
+    p-fits-3
+    n-fits-3
     loop-less-3
     loop-again-3
     (λ c. search needs)
@@ -306,25 +306,25 @@ plain-keys-spec =
     part-group-start
     part-group-end
     (λ c. refl)
-    add-p-4
-    add-n-4
+    p-fits-4
+    n-fits-4
     loop-less-4
     loop-again-4
     (λ c. search needs)
     slice-aggregate-x
-    add-p-5
-    add-n-5
+    p-fits-5
+    n-fits-5
     loop-less-5
     loop-again-5
     (λ c κs. search needs)
-    add-p-6
-    add-n-6
+    p-fits-6
+    n-fits-6
     loop-less-6
     loop-again-6
     (λ c κs. search needs)
     (λ c. search needs)
-    add-p-7
-    add-n-7
+    p-fits-7
+    n-fits-7
     loop-less-7
     loop-again-7
     (λ c. search needs)
