@@ -11,6 +11,7 @@ use lib.Dec.{eqb, eqb·zero-suc, eqb·suc-suc}
 use Rattle.base.specs.Choice.{pick}
 use Rattle.base.specs.Lists.{span, all}
 use Rattle.base.proofs.Tests.{and-both}
+use Rattle.base.proofs.Scan.{here, done}
 
 pub span-le : (p : ℕ → Bool) (s : List ℕ) → span p s ≤ length s
 unfolding span
@@ -122,3 +123,24 @@ span-skip p (suc n) [] h e = absurd (omega arith)
 span-skip p (suc n) (b ∷ s) h e =
     let q = and-both (p b) (all p (take n s)) e in
     rw (q .0) (omega (arith, span-skip p n s (omega arith) (q .1)))
+
+-- ---- a scan in progress: what is left to pass from i is the whole answer
+
+pub record Spanning (p : ℕ → Bool) (s : List ℕ) (from i : ℕ) : Type 0 where
+  pub is : i + span p (drop i s) ≡ from + span p (drop from s)
+
+pub span-start : {p : ℕ → Bool} {s : List ℕ} {from : ℕ} → Spanning p s from from
+span-start = record { is = refl }
+
+module _ {p : ℕ → Bool} {s : List ℕ} {from i : ℕ} (w : Spanning p s from i) where
+  pub span-goes : i < length s → p (getD s i 0) ≡ true → Spanning p s from (i + 1)
+  unfolding span
+  span-goes h e = record { is = omega (arith, rw (here s i h, e) at (w .is)) }
+
+  pub span-stops : i < length s → p (getD s i 0) ≡ false → i ≡ from + span p (drop from s)
+  unfolding span
+  span-stops h e = omega (arith, rw (here s i h, e) at (w .is))
+
+  pub span-ends : length s ≤ i → i ≡ from + span p (drop from s)
+  unfolding span
+  span-ends h = omega (arith, rw (done s i h) at (w .is))

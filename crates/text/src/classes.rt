@@ -87,8 +87,38 @@ pub fn is_in(k: Class, b: u8) -> bool
     }
 }
 
-// Past the bytes of a class that stand from a place on.
-pub fn span_end(s: &[u8], from: usize, k: Class) -> usize
+// Past the bytes of a key that stand from a place on. Keys have a loop of their own, since every line has one.
+fn key_end(s: &[u8], from: usize) -> usize
+    ensures { λ r. ⌜ r ≡ from + span spec.keyByte (drop from (now (s .entry))) ⌝ }
+{
+    let mut i = from;
+    while i < s.len() {
+        if is_key(s[i]) {
+            i += 1;
+        } else {
+            return i;
+        }
+    }
+    i
+}
+
+// Past the spaces that stand from a place on.
+fn space_end(s: &[u8], from: usize) -> usize
+    ensures { λ r. ⌜ r ≡ from + span spec.spaceByte (drop from (now (s .entry))) ⌝ }
+{
+    let mut i = from;
+    while i < s.len() {
+        if s[i] == b' ' {
+            i += 1;
+        } else {
+            return i;
+        }
+    }
+    i
+}
+
+// Past the bytes of any class.
+fn class_end(s: &[u8], from: usize, k: Class) -> usize
     ensures { λ r. ⌜ r ≡ from + span (spec.member k) (drop from (now (s .entry))) ⌝ }
 {
     let mut i = from;
@@ -100,6 +130,20 @@ pub fn span_end(s: &[u8], from: usize, k: Class) -> usize
         }
     }
     i
+}
+
+// Past the bytes of a class that stand from a place on.
+pub fn span_end(s: &[u8], from: usize, k: Class) -> usize
+    ensures { λ r. ⌜ r ≡ from + span (spec.member k) (drop from (now (s .entry))) ⌝ }
+{
+    match k {
+        Class::Key => key_end(s, from),
+        Class::Space => space_end(s, from),
+        Class::Group => class_end(s, from, k),
+        Class::Blank => class_end(s, from, k),
+        Class::Value => class_end(s, from, k),
+        Class::Text => class_end(s, from, k),
+    }
 }
 
 // Whether sixteen bytes are all from 0x20 to 0x7E. The loop has no way out, so that it becomes one comparison of sixteen bytes.
@@ -133,12 +177,12 @@ pub fn plain_end(s: &[u8], from: usize) -> usize
     let mut i = from;
     while i < s.len() {
         if s.len() - i < 16 {
-            return span_end(s, i, Class::Value);
+            return class_end(s, i, Class::Value);
         }
         if plain_16(s, i) {
             i += 16;
         } else {
-            return span_end(s, i, Class::Value);
+            return class_end(s, i, Class::Value);
         }
     }
     i
