@@ -9,7 +9,7 @@ use lib.ListN.{length, getD, set}
 
 -- a hash and one byte more
 abbrev pub hashByte : ℕ → ℕ → ℕ
-hashByte h b = h % 4294967296 * 16777619 + b
+hashByte h b = (h % 4294967296 + b) * 2654435769
 
 -- the hash of bytes that follow others with the hash h
 unfoldable pub hashFrom : List ℕ → ℕ → ℕ

@@ -17,7 +17,7 @@ fn hash(x: &[u8]) -> u64
     let mut h: u64 = 2166136261;
     let mut i: usize = 0;
     while i < x.len() {
-        h = h % 4294967296 * 16777619 + wide(x[i]);
+        h = (h % 4294967296 + wide(x[i])) * 2654435769;
         i += 1;
     }
     h

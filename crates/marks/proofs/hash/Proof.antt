@@ -30,8 +30,8 @@ hash-spec =
     μ-loop
     (λ c. refl)
     (λ c. search needs)
-    (λ c. search needs)
     (λ c κs. search needs)
+    (λ c. search needs)
     (λ c. search needs)
     (λ c. search needs)
     (λ c. search needs)
