@@ -85,11 +85,14 @@ fn rest(s: &[u8], from: usize, more: u8, low: u8, high: u8) -> Rest
     Rest::Fault(i)
 }
 
-// The character that begins with a byte over 0x7F.
+// The character that begins with a byte over 0x7F. Most have two bytes, so these come first, with what they ask for known to the compiler.
 fn character(s: &[u8], i: usize) -> Rest
     requires { ⌜ i < length (now s) ⌝ }
     ensures { λ r. ⌜ r ≡ characterAt (now (s .entry)) i ⌝ }
 {
+    if classes::within(0xc2, 0xdf, s[i]) {
+        return rest(s, i + 1, 0, 0x80, 0xbf);
+    }
     match lead(s[i]) {
         Next::Stop => Rest::Fault(i),
         Next::Is(due) => match due {
