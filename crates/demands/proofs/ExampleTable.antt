@@ -11,7 +11,7 @@ use Rattle.line.specs.Line.{entryAfter, readEntry, readHeader, readLine}
 use Rattle.line.specs.Form.{groupForm, plainForm, keyForm, localeForm}
 use Rattle.rows.specs.Rows.{rows, lineOf, rowsFrom, readRows}
 use Rattle.rows.specs.Title.{title, sameTitle, findRow}
-use Rattle.wellformed.specs.Check.{titleFault, earliest, plainOf, noPlain, checkAs}
+use Rattle.wellformed.specs.Check.{titleFault, earliest, plainOf, noPlain, titledAs, plainAll, checkAs}
 use Rattle.choice.specs.Locale.{stripped, plainLocale, candidates, firstKey, chosen}
 use Rattle.entry.specs.Lookup.{valueEnds, lookup}
 use Rattle.entry.specs.Choose.{choose}
@@ -21,6 +21,6 @@ pub examples-hold : ExamplesHold
 unfolding same span any all first keyByte groupByte blankByte valueByte textByte lead step textFault
     textEscape escape textFrom readText escaped escapedAll rawText fitText writeText rawElements eachRead elementsOf
     marked parts emptyPart isLocale postfixAt readName entryAfter readEntry readHeader readLine groupForm plainForm keyForm localeForm
-    rows lineOf rowsFrom readRows title sameTitle findRow titleFault earliest plainOf noPlain checkAs
+    rows lineOf rowsFrom readRows title sameTitle findRow titleFault earliest plainOf noPlain titledAs plainAll checkAs
     stripped plainLocale candidates firstKey chosen valueEnds lookup choose
 examples-hold = refl

@@ -19,10 +19,9 @@ use Rattle.rows.specs.Rows.{Row, lineOf, readRows}
 use Rattle.rows.specs.Title.{Title, Nameless, Group, Key, titleOf, title, sameTitle, seeing, titles}
 use Rattle.base.proofs.Search.{there-first}
 use Rattle.rows.proofs.Titles.{sameTitle-sym}
-use Rattle.wellformed.specs.Check.{titleFault, rowFault, earliest, isGroup, noPlain, checkAs}
+use Rattle.wellformed.specs.Check.{titleFault, rowFault, earliest, isGroup, noPlain, titledAs, plainAll, checkedRows, checkAs}
 use Rattle.rows.specs.Find.{noneBad}
 use Rattle.base.proofs.Tests.{no}
-use Rattle.wellformed.specs.Pass.{titledAs, plainAll, checkedRows}
 use Rattle.wellformed.specs.WellFormed.{leads, distinct, wellFormedAs, CheckAccepts}
 
 -- no title of a list was seen
@@ -140,33 +139,31 @@ regroup a b c d e g x h =
     ap (λ (y : Bool). a && y) (sym (and-assoc b g x) ∙ ap (λ (y : Bool). y && x) h)
     ∙ simp and-assoc
 
+-- 2 to 5 and 6, one after another
+two-steps : (o : Option Fault) (t : Bool) (f : Fault) (a : Answer (Unit {0}))
+    → (unless o >>= λ _. (need t f >>= λ _. a)) ≡ ((unless o >>= λ _. need t f) >>= λ _. a)
+two-steps none t f a = refl
+two-steps (some g) t f a = refl
+
 -- the check accepts exactly the well-formed files
 pub check-accepts : CheckAccepts
-unfolding CheckAccepts checkAs wellFormedAs
+unfolding CheckAccepts checkAs titledAs plainAll wellFormedAs
 check-accepts leading file =
     let rs : List Row = readRows file in
     accepted-need (leb (length file) 32768) TooLong _
     ∙ ap (λ (y : Bool). leb (length file) 32768 && y)
-    (accepted-unless (earliest leading [] rs) _
+    (sym (ap accepted (two-steps (earliest leading [] rs) (any groupRow rs) (FirstGroup 0) (maybe (first (noPlain rs) rs) (given tt) (λ r. refused (NoPlainKey (r .line))))))
+    ∙ accepted-unless (earliest leading [] rs) _
     ∙ ap (λ (y : Bool). not (there (earliest leading [] rs)) && y)
     (accepted-need (any groupRow rs) (FirstGroup 0) _
     ∙ ap (λ (y : Bool). any groupRow rs && y) (accepted-none (first (noPlain rs) rs) (λ (r : Row). NoPlainKey (r .line)) ∙ ap not (there-first (noPlain rs) rs))))
     ∙ regroup (leb (length file) 32768) (not (there (earliest leading [] rs))) (not (any badRow rs)) (leads leading (titles rs)) (distinct (titles rs)) (any groupRow rs) (not (any (noPlain rs) rs))
     (earliest-whole leading rs)
 
--- ---- the check in two steps
-
-two-steps : (o : Option Fault) (t : Bool) (f : Fault) (a : Answer (Unit {0}))
-    → (unless o >>= λ _. (need t f >>= λ _. a)) ≡ ((unless o >>= λ _. need t f) >>= λ _. a)
-two-steps none t f a = refl
-two-steps (some g) t f a = refl
-
+-- 1, then 2 to 6
 pub check-rows : (leading file : List ℕ) → checkAs leading file ≡ (need (leb (length file) 32768) TooLong >>= λ _. checkedRows leading (readRows file))
-unfolding checkAs titledAs plainAll
-check-rows leading file =
-    let rs : List Row = readRows file in
-    ap (λ (a : Answer (Unit {0})). need (leb (length file) 32768) TooLong >>= λ _. a)
-    (two-steps (earliest leading [] rs) (any groupRow rs) (FirstGroup 0) (maybe (first (noPlain rs) rs) (given tt) (λ r. refused (NoPlainKey (r .line)))))
+unfolding checkAs
+check-rows leading file = refl
 
 -- where 2 to 5 are no fault, no row is bad
 pub titled-good : (leading file : List ℕ) → given tt ≡ titledAs leading (readRows file) → noneBad file ≡ true

@@ -24,8 +24,8 @@ use Rattle.rows.specs.Find.{lineLength, noneBad}
 use Rattle.base.proofs.Search.{there-first}
 use Rattle.rows.proofs.Titles.{nameless}
 use Rattle.rows.proofs.Step.{rowAt, groupNext, no-row, line-at, row-step, Prefix, prefix-start, prefix-end, prefix-read, prefix-next}
-use Rattle.wellformed.specs.Check.{titleFault, rowFault, earliest, isGroup}
-use Rattle.wellformed.specs.Pass.{titledAs, verdictOf}
+use Rattle.wellformed.specs.Check.{titleFault, rowFault, earliest, isGroup, titledAs}
+use Rattle.wellformed.specs.Pass.{verdictOf}
 use Rattle.wellformed.specs.declared.Verdict.{Verdict}
 use Rattle.wellformed.specs.declared.Verdict.the-variants as verdict
 use Rattle.wellformed.proofs.Lists.{or-false, or-true, or-comm, any-last}

@@ -23,8 +23,7 @@ use Rattle.rows.specs.Find.{lineLength, toldOf}
 use Rattle.rows.specs.declared.Found.the-variants as found
 use Rattle.base.proofs.Search.{there-first, any-append, first-none}
 use Rattle.rows.proofs.Step.{rowAt, groupNext, no-row, length-line, line-at, row-step, Prefix, prefix-start, prefix-end, prefix-rest, prefix-read, prefix-next}
-use Rattle.wellformed.specs.Check.{plainOf, plainTitle, wanted, noPlain}
-use Rattle.wellformed.specs.Pass.{plainAll}
+use Rattle.wellformed.specs.Check.{plainOf, plainTitle, wanted, noPlain, plainAll}
 use Rattle.wellformed.proofs.Lists.{or-true, any-last}
 
 -- what was told of a row says whether there is one

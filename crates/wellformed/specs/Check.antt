@@ -66,14 +66,25 @@ wanted rs (Key g k) = not (has rs (Key g k))
 unfoldable pub noPlain : List Row → Row → Bool
 noPlain rs r = wanted rs (plainTitle (title r))
 
+-- 2 to 5, then 3 for no header
+unfoldable pub titledAs : List ℕ → List Row → Answer (Unit {0})
+titledAs leading rs = do
+  _ ← unless (earliest leading [] rs)
+  need (any (λ r. isGroup (title r)) rs) (FirstGroup 0)
+
+-- 6
+unfoldable pub plainAll : List Row → Answer (Unit {0})
+plainAll rs = maybe (first (noPlain rs) rs) (given tt) (λ r. refused (NoPlainKey (r .line)))
+
+-- 2 to 6, of the rows of a file that is not too long
+abbrev pub checkedRows : List ℕ → List Row → Answer (Unit {0})
+checkedRows leading rs = titledAs leading rs >>= λ _. plainAll rs
+
 -- the faults 1 to 6 of a file whose first group has this name, in 01's order
 unfoldable pub checkAs : List ℕ → List ℕ → Answer (Unit {0})
 checkAs leading file = do
   _ ← need (leb (length file) fileMost) TooLong
-  let rs = readRows file
-  _ ← unless (earliest leading [] rs)
-  _ ← need (any (λ r. isGroup (title r)) rs) (FirstGroup 0)
-  maybe (first (noPlain rs) rs) (given tt) (λ r. refused (NoPlainKey (r .line)))
+  checkedRows leading (readRows file)
 
 -- the check: the first group is Desktop Entry
 abbrev pub check : List ℕ → Answer (Unit {0})

@@ -2,14 +2,12 @@
 use mathlib.Core.Path.{_≡_}
 use Prim.Native.Nat.{ℕ}
 use mathlib.Core.Bool.{Bool, true, false}
-use mathlib.Core.List.{List, []}
-use Rattle.base.specs.Choice.{pick, maybe}
-use Rattle.base.specs.Lists.{any, first}
-use Rattle.fault.specs.declared.Fault.the-variants.{FirstGroup, NoPlainKey}
-use Rattle.fault.specs.Answer.{Answer, given, refused, _>>=_, need, unless}
+use mathlib.Core.List.{List}
+use Rattle.base.specs.Choice.{pick}
+use Rattle.fault.specs.Answer.{Answer, given, refused}
 use Rattle.rows.specs.Rows.{Row}
-use Rattle.rows.specs.Title.{Title, Group, title, sameTitle, has}
-use Rattle.wellformed.specs.Check.{earliest, isGroup, noPlain}
+use Rattle.rows.specs.Title.{Title, Group, sameTitle, has}
+use Rattle.wellformed.specs.Check.{plainAll}
 use Rattle.wellformed.specs.declared.Checked.{Checked}
 use Rattle.wellformed.specs.declared.Checked.the-variants as checked
 use Rattle.wellformed.specs.declared.Scanned.{Scanned}
@@ -21,16 +19,6 @@ use Rattle.wellformed.specs.declared.Verdict.the-variants as verdict
 abbrev pub answered : Checked → Answer (Unit {0})
 answered checked.Sound = given tt
 answered (checked.Refused f) = refused f
-
--- 2 to 5, then 3 for no header
-unfoldable pub titledAs : List ℕ → List Row → Answer (Unit {0})
-titledAs leading rs = do
-  _ ← unless (earliest leading [] rs)
-  need (any (λ r. isGroup (title r)) rs) (FirstGroup 0)
-
--- 6
-unfoldable pub plainAll : List Row → Answer (Unit {0})
-plainAll rs = maybe (first (noPlain rs) rs) (given tt) (λ r. refused (NoPlainKey (r .line)))
 
 -- a title after some rows; the flag: no title stands before it
 unfoldable pub verdictOf : Bool → List ℕ → List Row → Title → Verdict
@@ -48,7 +36,3 @@ abbrev pub Settles : Scanned → List Row → Type 0
 Settles scan.Settled rs = given tt ≡ plainAll rs
 Settles scan.Doubtful rs = Unit
 Settles (scan.Refused f) rs = Unit
-
--- 2 to 6, of the rows of a file that is not too long
-abbrev pub checkedRows : List ℕ → List Row → Answer (Unit {0})
-checkedRows leading rs = titledAs leading rs >>= λ _. plainAll rs

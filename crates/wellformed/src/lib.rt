@@ -107,7 +107,7 @@ fn entry(
 // comes before it (`want` is the plain key that is still to come); any other order is left in doubt.
 fn scan(file: &[u8], leading: &[u8], marks: &mut [u64]) -> Scanned
     requires { ⌜ 0 < length (now marks) ⌝ }
-    ensures { λ r. ⌜ (pass.scanned r ≡ pass.titledAs (now (leading .entry)) (readRows (now (file .entry)))) × pass.Settles r (readRows (now (file .entry))) ⌝ }
+    ensures { λ r. ⌜ (pass.scanned r ≡ spec.titledAs (now (leading .entry)) (readRows (now (file .entry)))) × pass.Settles r (readRows (now (file .entry))) ⌝ }
 {
     let mut p: usize = 0;
     let mut n: usize = 1;
@@ -211,7 +211,7 @@ fn scan(file: &[u8], leading: &[u8], marks: &mut [u64]) -> Scanned
 // it is the one read or found last.
 fn plain_keys(file: &[u8]) -> Checked
     requires { ⌜ noneBad (now file) ≡ true ⌝ }
-    ensures { λ r. ⌜ pass.answered r ≡ pass.plainAll (readRows (now (file .entry))) ⌝ }
+    ensures { λ r. ⌜ pass.answered r ≡ spec.plainAll (readRows (now (file .entry))) ⌝ }
 {
     let mut p: usize = 0;
     let mut n: usize = 1;
@@ -280,7 +280,7 @@ fn plain_keys(file: &[u8]) -> Checked
 // Both passes, with a table of marks.
 fn check_with(file: &[u8], leading: &[u8], marks: &mut [u64]) -> Checked
     requires { ⌜ 0 < length (now marks) ⌝ }
-    ensures { λ r. ⌜ pass.answered r ≡ pass.checkedRows (now (leading .entry)) (readRows (now (file .entry))) ⌝ }
+    ensures { λ r. ⌜ pass.answered r ≡ spec.checkedRows (now (leading .entry)) (readRows (now (file .entry))) ⌝ }
 {
     match scan(file, leading, marks) {
         Scanned::Refused(f) => Checked::Refused(f),
@@ -290,14 +290,14 @@ fn check_with(file: &[u8], leading: &[u8], marks: &mut [u64]) -> Checked
 }
 
 fn check_short(file: &[u8], leading: &[u8]) -> Checked
-    ensures { λ r. ⌜ pass.answered r ≡ pass.checkedRows (now (leading .entry)) (readRows (now (file .entry))) ⌝ }
+    ensures { λ r. ⌜ pass.answered r ≡ spec.checkedRows (now (leading .entry)) (readRows (now (file .entry))) ⌝ }
 {
     let mut marks = [0u64; 256];
     check_with(file, leading, &mut marks)
 }
 
 fn check_long(file: &[u8], leading: &[u8]) -> Checked
-    ensures { λ r. ⌜ pass.answered r ≡ pass.checkedRows (now (leading .entry)) (readRows (now (file .entry))) ⌝ }
+    ensures { λ r. ⌜ pass.answered r ≡ spec.checkedRows (now (leading .entry)) (readRows (now (file .entry))) ⌝ }
 {
     let mut marks = [0u64; 2048];
     check_with(file, leading, &mut marks)
