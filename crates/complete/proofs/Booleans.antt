@@ -14,12 +14,12 @@ use Rattle.line.specs.Name.{byteAt}
 use Rattle.line.specs.Line.{readLine, isBad}
 use Rattle.line.specs.declared.Line.{Line}
 use Rattle.line.specs.declared.Line.the-variants.{Blank, Comment, Header, Entry, Bad}
-use Rattle.rows.specs.Rows.{Row, rows, rowsFrom, readRows}
+use Rattle.rows.specs.Rows.{Row, rows, rowsFrom, readRows, valueStart, rawValue}
 use Rattle.rows.specs.Title.{desktopEntry, titleOf, sameTitle}
-use Rattle.rows.specs.Find.{lineLength, valueStart, noneBad}
+use Rattle.rows.specs.Find.{lineLength, noneBad}
 use Rattle.rows.proofs.Step.{rowAt, groupNext, no-row, line-at, title-at, row-step, Prefix, prefix-start, prefix-rest, prefix-next}
 use Rattle.rows.proofs.Lines.{header-good, group-stays}
-use Rattle.complete.specs.Complete.{main, rawValue, booleanKeys, isBoolean, badBoolean, booleans}
+use Rattle.complete.specs.Complete.{main, booleanKeys, isBoolean, badBoolean, booleans}
 use Rattle.complete.specs.Step.{booleanKey, wrongIn}
 
 -- a row in a group is wrong if the group is Desktop Entry and its line is wrong

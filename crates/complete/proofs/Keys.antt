@@ -9,13 +9,13 @@ use Rattle.base.specs.Lists.{ascii, part}
 use Rattle.fault.specs.declared.Fault.{Fault}
 use Rattle.fault.specs.declared.Fault.the-variants.{Incomplete}
 use Rattle.fault.specs.Answer.{Answer, _>>=_, need}
-use Rattle.rows.specs.Rows.{Row, readRows}
+use Rattle.rows.specs.Rows.{Row, readRows, rawValue}
 use Rattle.rows.specs.Title.{findRow, has}
 use Rattle.rows.specs.Find.{toldOf}
 use Rattle.rows.specs.declared.Found.{Found}
 use Rattle.rows.specs.declared.Found.the-variants as told
 use Rattle.rows.proofs.Told.{Told, told-row, told-nothing, found-row, value-stands, told-bounds}
-use Rattle.complete.specs.Complete.{main, rawValue, knownType, execWhereDue, urlWhereDue, booleans, completeRows}
+use Rattle.complete.specs.Complete.{main, knownType, execWhereDue, urlWhereDue, booleans, completeRows}
 use Rattle.complete.specs.Step.{keysThere}
 
 -- the row of a key that is there: its number, and where its value stands in the file

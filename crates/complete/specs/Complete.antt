@@ -2,22 +2,16 @@
 use Prim.Native.Nat.{ℕ}
 use mathlib.Core.Bool.{Bool, true, false, not, _&&_, _||_}
 use mathlib.Core.List.{List, [], _∷_}
-use lib.ListN.{drop}
 use Rattle.base.specs.Choice.{maybe}
 use Rattle.base.specs.Lists.{ascii, same, any, first}
 use Rattle.fault.specs.declared.Fault.the-variants.{Incomplete}
 use Rattle.fault.specs.Answer.{Answer, given, refused, _>>=_, need, some-or}
-use Rattle.rows.specs.Rows.{Row, lineOf}
+use Rattle.rows.specs.Rows.{Row, rawValue}
 use Rattle.rows.specs.Title.{desktopEntry, Title, Key, title, sameTitle, findRow, has}
-use Rattle.rows.specs.Find.{valueStart}
 
 -- a plain key of Desktop Entry
 abbrev pub main : List ℕ → Title
 main key = Key desktopEntry key
-
--- the raw value
-unfoldable pub rawValue : Row → List ℕ
-rawValue r = drop (valueStart (r .reading)) (lineOf (r .bytes))
 
 -- the key is there with exactly this raw value
 unfoldable pub valueIs : List Row → List ℕ → List ℕ → Bool

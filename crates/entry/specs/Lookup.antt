@@ -7,9 +7,8 @@ use Rattle.base.specs.Lists.{part}
 use Rattle.fault.specs.declared.Fault.the-variants.{BadArgument, Missing}
 use Rattle.fault.specs.Answer.{Answer, given, refused, _>>=_, need, some-or}
 use Rattle.line.specs.Form.{groupForm, keyForm}
-use Rattle.rows.specs.Rows.{Row, lineOf, readRows}
+use Rattle.rows.specs.Rows.{Row, lineOf, readRows, valueStart}
 use Rattle.rows.specs.Title.{Key, findRow}
-use Rattle.rows.specs.Find.{valueStart}
 use Rattle.rows.specs.declared.Found.{Found}
 use Rattle.rows.specs.declared.Found.the-variants as found
 use Rattle.wellformed.specs.Check.{check}

@@ -18,9 +18,9 @@ use Rattle.line.specs.declared.Named.{Named}
 use Rattle.line.specs.declared.Named.the-variants.{Name, NoName}
 use Rattle.line.proofs.Bounds.{NamedWithin, name-within, LineWithin, line-within}
 use Rattle.line.proofs.FirstByte.{Headed, headed-line, Unheaded, unheaded-line}
-use Rattle.rows.specs.Rows.{groupAfter}
+use Rattle.rows.specs.Rows.{groupAfter, valueStart}
 use Rattle.rows.specs.Title.{Group, Key, titleOf, sameTitle}
-use Rattle.rows.specs.Find.{valueStart, namedAs}
+use Rattle.rows.specs.Find.{namedAs}
 
 -- a value starts in its line
 pub value-le : (l : List ℕ) → valueStart (readLine l) ≤ length l

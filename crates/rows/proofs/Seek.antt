@@ -13,9 +13,9 @@ use Rattle.base.proofs.Tests.{or-both}
 use Rattle.line.specs.Name.{byteAt, readName}
 use Rattle.line.specs.Line.{readLine, isBad}
 use Rattle.line.specs.declared.Line.the-variants.{Header}
-use Rattle.rows.specs.Rows.{Row, rows, rowsFrom, readRows}
+use Rattle.rows.specs.Rows.{Row, rows, rowsFrom, readRows, valueStart}
 use Rattle.rows.specs.Title.{Title, Group, Key, sameTitle, findRow}
-use Rattle.rows.specs.Find.{lineLength, valueStart, noneBad, toldOf, namedAs}
+use Rattle.rows.specs.Find.{lineLength, noneBad, toldOf, namedAs}
 use Rattle.rows.specs.declared.Found.the-variants as found
 use Rattle.rows.proofs.Step.{groupNext, titleAt, no-row, start-le, length-line, line-at, title-at, row-step}
 use Rattle.rows.proofs.Lines.{header-good, group-stays, no-group, key-title}

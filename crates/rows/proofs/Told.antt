@@ -12,9 +12,9 @@ use Rattle.base.specs.Lists.{part, joined}
 use Rattle.base.proofs.Tests.{no}
 use Rattle.base.proofs.Lists.{joined-append}
 use Rattle.line.specs.Line.{readLine}
-use Rattle.rows.specs.Rows.{Row, rows, lineOf, readRows}
+use Rattle.rows.specs.Rows.{Row, rows, lineOf, readRows, valueStart}
 use Rattle.rows.specs.Title.{Title, title, sameTitle, findRow}
-use Rattle.rows.specs.Find.{valueStart, toldOf}
+use Rattle.rows.specs.Find.{toldOf}
 use Rattle.rows.specs.declared.Found.the-variants as told
 use Rattle.rows.proofs.Rows.{joined-rows, row-split, Found, found-first}
 use Rattle.rows.proofs.Lines.{value-le}

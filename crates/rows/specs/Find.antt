@@ -8,12 +8,10 @@ use lib.ListN.{length, take}
 use lib.Dec.{eqb}
 use Rattle.base.specs.Choice.{pick, maybe}
 use Rattle.base.specs.Lists.{same, any}
-use Rattle.line.specs.declared.Line.{Line}
-use Rattle.line.specs.declared.Line.the-variants.{Blank, Comment, Header, Entry, Bad}
 use Rattle.line.specs.declared.Named.{Named}
 use Rattle.line.specs.declared.Named.the-variants.{Name, NoName}
 use Rattle.line.specs.Line.{isBad}
-use Rattle.rows.specs.Rows.{Row, lineOf, readRows}
+use Rattle.rows.specs.Rows.{Row, lineOf, readRows, valueStart}
 use Rattle.rows.specs.declared.Found.{Found}
 use Rattle.rows.specs.declared.Found.the-variants as found
 
@@ -25,14 +23,6 @@ noLF b = not (eqb b (code "\n"))
 unfoldable pub lineLength : List ℕ → ℕ
 lineLength [] = 0
 lineLength (b ∷ bs) = let more : ℕ = suc (lineLength bs) in pick (eqb b (code "\n")) 0 more
-
--- where an entry's value starts in its line
-abbrev pub valueStart : Line → ℕ
-valueStart Blank = 0
-valueStart Comment = 0
-valueStart (Header e) = 0
-valueStart (Entry key name value) = value
-valueStart (Bad n) = 0
 
 -- no row is bad
 unfoldable pub noneBad : List ℕ → Bool

@@ -5,7 +5,7 @@ use Prim.Native.Char.{Char, code}
 use mathlib.Core.Bool.{Bool, true, false, not}
 use mathlib.Core.Path.{_≡_}
 use mathlib.Core.List.{List, [], _∷_}
-use lib.ListN.{length}
+use lib.ListN.{length, drop}
 use lib.Dec.{eqb}
 use Rattle.base.specs.Choice.{pick}
 use Rattle.base.specs.Lists.{part, before, joined}
@@ -59,3 +59,15 @@ rowsFrom n at group (r ∷ rs) =
 -- the rows of a whole file
 unfoldable pub readRows : List ℕ → List Row
 readRows file = rowsFrom 1 0 [] (rows file)
+
+-- where an entry's value starts in its line
+abbrev pub valueStart : Line → ℕ
+valueStart Blank = 0
+valueStart Comment = 0
+valueStart (Header e) = 0
+valueStart (Entry key name value) = value
+valueStart (Bad n) = 0
+
+-- the raw value
+unfoldable pub rawValue : Row → List ℕ
+rawValue r = drop (valueStart (r .reading)) (lineOf (r .bytes))

@@ -9,9 +9,9 @@ ghost use Rattle.base.specs.Lists as lists;
 ghost use Rattle.line.specs.Name.{byteAt, readName};
 ghost use Rattle.line.specs.Line.{readLine};
 ghost use lib.Dec.{eqb};
-ghost use Rattle.rows.specs.Rows.{readRows};
+ghost use Rattle.rows.specs.Rows.{readRows, valueStart};
 ghost use Rattle.rows.specs.Title as title;
-ghost use Rattle.rows.specs.Find.{noLF, lineLength, valueStart, noneBad, toldOf, namedAs};
+ghost use Rattle.rows.specs.Find.{noLF, lineLength, noneBad, toldOf, namedAs};
 
 // A row of a file: its number, where it starts, where its line ends, where its value starts (an entry's; else the row's start).
 pub enum Found {

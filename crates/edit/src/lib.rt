@@ -1,0 +1,1 @@
+// Set, remove, undo and redo.

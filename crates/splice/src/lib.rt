@@ -1,0 +1,1 @@
+// Edits of lent bytes.
