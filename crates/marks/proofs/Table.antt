@@ -1,16 +1,17 @@
 -- A mark that is set stays set, whatever is marked after it. Assumes nothing.
-use mathlib.Core.Path.{_≡_, refl, ap, _∙_}
+use mathlib.Core.Path.{_≡_, refl, sym, ap, _∙_}
 use mathlib.Core.List.{List}
-use mathlib.Core.Bool.{Bool, true, false}
+use mathlib.Core.Bool.{Bool, true, false, _&&_, false≢true}
 use Prim.Native.Nat.{ℕ, _/_, _%_, _-_, _<_, max}
 use native.Mathlib.Omega.{arith}
-use borrow.Author.Tests.{eqb-true, eqb-false, eq-eqb, ne-eqb}
+use borrow.Author.Tests.{eqb-true, eqb-false, eq-eqb}
 use lib.Arith.{bin-ind}
 use lib.Bits.{bitAnd, bitOr, and-step, or-step, and-self, and-zero-r, or-comm, and-le-r}
 use lib.Dec.{eqb}
 use lib.ListN.{length, getD, set, length-set}
 use lib.Seq.{getD-set-same, getD-set-other}
-use Rattle.marks.specs.Marks.{hashOf, mixOf, hasBits, nameWord, nameBits, marked, withMark}
+use Rattle.base.proofs.Tests.{by-test, and-both}
+use Rattle.marks.specs.Marks.{hashStep, hashFrom, hashOf, rehash, wordOf, bitsOf, hasBits, withBits, marked, withMark}
 
 -- ---- in a word
 
@@ -40,39 +41,77 @@ bits-own w a = rw or-comm (bits-kept a w a (and-self a))
 
 -- ---- in a table
 
--- bits set in one word leave every bit that was set
-word-kept : (m : List ℕ) (i a j b : ℕ) → i < length m → hasBits (getD (set m i (bitOr (getD m i 0) a)) j 0) b ≡ false → hasBits (getD m j 0) b ≡ false
-word-kept m i a j b h q = go (eqb j i) refl
-  where
-    still : j ≡ i → bitAnd (getD m j 0) b ≡ b → bitAnd (getD (set m i (bitOr (getD m i 0) a)) j 0) b ≡ b
-    still e z = rw (e, getD-set-same m i (bitOr (getD m i 0) a) 0 h) (bits-kept (getD m i 0) a b (rw e at z))
+module _ (m : List ℕ) (h : ℕ) where
+  pub set-length : length (withBits m h) ≡ length m
+  unfolding withBits
+  set-length = length-set m _ _
 
-    go : (t : Bool) → eqb j i ≡ t → hasBits (getD m j 0) b ≡ false
-    go true e = ne-eqb _ _ (λ z. eqb-false (bitAnd (getD (set m i (bitOr (getD m i 0) a)) j 0) b) b q (still (eqb-true j i e) z))
-    go false e = rw (getD-set-other m i j (bitOr (getD m i 0) a) 0 (eqb-false j i e)) at q
+  module _ (p : 0 < length m) where
+    word-inside : wordOf (length m) h < length m
+    word-inside = omega (arith, and-le-r (h / 281474976710656) (length m - 1))
+
+    -- the bits are set now
+    set-own : hasBits (withBits m h) h ≡ true
+    unfolding hasBits withBits
+    set-own =
+        let i : ℕ = wordOf (length m) h in
+        let v : ℕ = bitOr (getD m i 0) (bitsOf h) in
+        rw (length-set m i v, getD-set-same m i v 0 word-inside) (eq-eqb _ _ (bits-own (getD m i 0) (bitsOf h)))
+
+    -- bits that were set are still set
+    set-kept : (k : ℕ) → hasBits m k ≡ true → hasBits (withBits m h) k ≡ true
+    unfolding hasBits withBits
+    set-kept k q = rw (length-set m (wordOf (length m) h) (bitOr (getD m (wordOf (length m) h) 0) (bitsOf h))) (go (eqb (wordOf (length m) k) (wordOf (length m) h)) refl)
+      where
+        i : ℕ
+        i = wordOf (length m) h
+
+        go : (t : Bool) → eqb (wordOf (length m) k) (wordOf (length m) h) ≡ t
+            → eqb (bitAnd (getD (set m (wordOf (length m) h) (bitOr (getD m (wordOf (length m) h) 0) (bitsOf h))) (wordOf (length m) k) 0) (bitsOf k)) (bitsOf k) ≡ true
+        go true e =
+            let z : wordOf (length m) k ≡ wordOf (length m) h = eqb-true _ _ e in
+            rw (z, getD-set-same m (wordOf (length m) h) (bitOr (getD m (wordOf (length m) h) 0) (bitsOf h)) 0 word-inside)
+            (eq-eqb _ _ (bits-kept (getD m (wordOf (length m) h) 0) (bitsOf h) (bitsOf k) (eqb-true _ _ (rw z at q))))
+        go false e = rw (getD-set-other m (wordOf (length m) h) (wordOf (length m) k) (bitOr (getD m (wordOf (length m) h) 0) (bitsOf h)) 0 (eqb-false _ _ e)) q
 
 module _ (m : List ℕ) (tag : ℕ) (x : List ℕ) where
   pub mark-length : length (withMark m tag x) ≡ length m
   unfolding withMark
-  mark-length = length-set m _ _
+  mark-length = set-length _ _ ∙ set-length m (hashOf tag x)
 
-  module _ (h : 0 < length m) where
-    word-inside : nameWord (length m) tag x < length m
-    unfolding nameWord
-    word-inside = omega (arith, and-le-r (mixOf tag (hashOf x) / 1048576) (length m - 1))
+  module _ (p : 0 < length m) where
+    inner : 0 < length (withBits m (hashOf tag x))
+    inner = rw (set-length m (hashOf tag x)) p
 
     -- the name has its mark now
     pub mark-own : marked (withMark m tag x) tag x ≡ true
     unfolding marked withMark
     mark-own =
-        let i : ℕ = nameWord (length m) tag x in
-        let v : ℕ = bitOr (getD m i 0) (nameBits tag x) in
-        rw (length-set m i v, getD-set-same m i v 0 word-inside) (eq-eqb _ _ (bits-own (getD m i 0) (nameBits tag x)))
+        let h : ℕ = hashOf tag x in
+        let first : hasBits (withBits (withBits m h) (rehash h)) h ≡ true = set-kept (withBits m h) (rehash h) inner h (set-own m h p) in
+        rw (first, set-own (withBits m h) (rehash h) inner)
+
+    -- the bits of a hash that were set are still set
+    kept : (k : ℕ) → hasBits m k ≡ true → hasBits (withMark m tag x) k ≡ true
+    unfolding withMark
+    kept k q = set-kept (withBits m (hashOf tag x)) (rehash (hashOf tag x)) inner k (set-kept m (hashOf tag x) p k q)
 
     -- a name without a mark now had none before
     pub mark-kept : (tag′ : ℕ) (y : List ℕ) → marked (withMark m tag x) tag′ y ≡ false → marked m tag′ y ≡ false
-    unfolding marked withMark
-    mark-kept tag′ y q =
-        let i : ℕ = nameWord (length m) tag x in
-        let v : ℕ = bitOr (getD m i 0) (nameBits tag x) in
-        word-kept m i (nameBits tag x) (nameWord (length m) tag′ y) (nameBits tag′ y) word-inside (rw (length-set m i v) at q)
+    unfolding marked
+    mark-kept tag′ y q = by-test (hasBits m h && hasBits m (rehash h)) still (λ e. e)
+      where
+        h : ℕ
+        h = hashOf tag′ y
+
+        still : (hasBits m h && hasBits m (rehash h)) ≡ true → (hasBits m h && hasBits m (rehash h)) ≡ false
+        still e =
+            let b = and-both (hasBits m h) (hasBits m (rehash h)) e in
+            absurd (false≢true (sym q ∙ rw (kept h (b .0), kept (rehash h) (b .1))))
+
+-- a name's mark, from its two hashes
+pub marked-by : (m : List ℕ) (tag : ℕ) (x : List ℕ) {m₁ m₂ : List ℕ} {h h₁ g : ℕ} {t : Bool} → h₁ ≡ hashFrom x 2166136261
+    → h ≡ hashStep 2246822519 h₁ (tag % 65536) → g ≡ rehash h → t ≡ (hasBits m h && hasBits m g) → m₁ ≡ withBits m h → m₂ ≡ withBits m₁ g
+    → (t ≡ marked m tag x) × (m₂ ≡ withMark m tag x)
+unfolding hashOf marked withMark
+marked-by m tag x e₁ e e₂ q s₁ s₂ = rw (q, s₂, s₁, e₂, e, e₁) (refl, refl)

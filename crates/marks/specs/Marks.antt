@@ -1,59 +1,60 @@
 -- A table of marks for names. A mark says "perhaps there", no mark says "surely not there". Nothing is asked of the hash but that it is a function.
 -- Assumes nothing.
 use Prim.Native.Nat.{ℕ, _+_, _-_, _*_, _/_, _%_, _^_}
-use mathlib.Core.Bool.{Bool}
+use mathlib.Core.Bool.{Bool, _&&_}
 use mathlib.Core.List.{List, [], _∷_}
-use lib.Bits.{bitAnd, bitOr}
+use lib.Bits.{bitAnd, bitOr, bitXor}
 use lib.Dec.{eqb}
 use lib.ListN.{length, getD, set}
 
--- a hash and one byte more
-abbrev pub hashByte : ℕ → ℕ → ℕ
-hashByte h b = (h % 4294967296 + b) * 2654435769
+-- a hash and a number of 32 bits more, by a multiplier
+abbrev pub hashStep : ℕ → ℕ → ℕ → ℕ
+hashStep k h w = bitXor ((h % 4294967296 + w) % 4294967296 * k) (h / 4294967296)
 
--- the hash of bytes that follow others with the hash h
+-- the same for the bytes of a name
+abbrev pub hashWord : ℕ → ℕ → ℕ
+hashWord h w = hashStep 2654435769 h w
+
+-- the hash of bytes that follow others with the hash h, four at a time
 unfoldable pub hashFrom : List ℕ → ℕ → ℕ
 hashFrom [] h = h
-hashFrom (b ∷ bs) h = hashFrom bs (hashByte h b)
+hashFrom (a ∷ []) h = hashWord h a
+hashFrom (a ∷ b ∷ []) h = hashWord h (a + 256 * b)
+hashFrom (a ∷ b ∷ c ∷ []) h = hashWord h (a + 256 * (b + 256 * c))
+hashFrom (a ∷ b ∷ c ∷ d ∷ s) h = hashFrom s (hashWord h (a + 256 * (b + 256 * (c + 256 * d))))
 
--- the hash of a name
-abbrev pub hashOf : List ℕ → ℕ
-hashOf x = hashFrom x 2166136261
+-- the hash of a name under a number
+unfoldable pub hashOf : ℕ → List ℕ → ℕ
+hashOf tag x = hashStep 2246822519 (hashFrom x 2166136261) (tag % 65536)
 
--- a hash mixed with the number of a group
-abbrev pub mixOf : ℕ → ℕ → ℕ
-mixOf tag h = (h / 1048576 % 4294967296 + tag % 65536 * 40503) % 4294967296 * 2654435769
+-- a second hash, from the first
+abbrev pub rehash : ℕ → ℕ
+rehash h = (h / 4294967296 + h % 4294967296) % 4294967296 * 3266489917
 
 -- the word of a hash, in a table of n words
 abbrev pub wordOf : ℕ → ℕ → ℕ
-wordOf n h = bitAnd (h / 1048576) (n - 1)
+wordOf n h = bitAnd (h / 281474976710656) (n - 1)
 
 -- one bit of 64
 abbrev pub bit : ℕ → ℕ
 bit k = 1 * 2 ^ (k % 64) % 18446744073709551616
 
--- four bits of a hash
+-- three bits of a hash
 abbrev pub bitsOf : ℕ → ℕ
-bitsOf h = bitOr (bitOr (bitOr (bit (h / 4294967296)) (bit (h / 274877906944))) (bit (h / 16384))) (bit (h / 256))
+bitsOf h = bitOr (bitOr (bit (h / 4398046511104)) (bit (h / 68719476736))) (bit (h / 1073741824))
 
--- all bits b are set in w
-abbrev pub hasBits : ℕ → ℕ → Bool
-hasBits w b = eqb (bitAnd w b) b
+-- the table has the bits of a hash in its word
+unfoldable pub hasBits : List ℕ → ℕ → Bool
+hasBits m h = eqb (bitAnd (getD m (wordOf (length m) h) 0) (bitsOf h)) (bitsOf h)
 
--- the word and the bits of a name under a number
-unfoldable pub nameWord : ℕ → ℕ → List ℕ → ℕ
-nameWord n tag x = wordOf n (mixOf tag (hashOf x))
+-- the table with these bits
+unfoldable pub withBits : List ℕ → ℕ → List ℕ
+withBits m h = set m (wordOf (length m) h) (bitOr (getD m (wordOf (length m) h) 0) (bitsOf h))
 
--- its bits
-unfoldable pub nameBits : ℕ → List ℕ → ℕ
-nameBits tag x = bitsOf (mixOf tag (hashOf x))
-
--- the table has the name's mark
+-- the table has a name's mark under a number: the bits of both hashes
 unfoldable pub marked : List ℕ → ℕ → List ℕ → Bool
-marked m tag x = hasBits (getD m (nameWord (length m) tag x) 0) (nameBits tag x)
+marked m tag x = hasBits m (hashOf tag x) && hasBits m (rehash (hashOf tag x))
 
--- the table with the name's mark
+-- the table with that mark
 unfoldable pub withMark : List ℕ → ℕ → List ℕ → List ℕ
-withMark m tag x =
-    let i : ℕ = nameWord (length m) tag x in
-    set m i (bitOr (getD m i 0) (nameBits tag x))
+withMark m tag x = withBits (withBits m (hashOf tag x)) (rehash (hashOf tag x))

@@ -1,26 +1,32 @@
 -- `marks::hash` meets its contract: what the bytes from `i` on make of the hash is the whole answer. Assumes nothing.
 use borrow.Author.Needs.{needs}
-use mathlib.Core.Path.{_≡_, refl}
-use Rattle.base.proofs.Scan.{here, done}
+use native.Mathlib.Omega.{arith}
+use mathlib.Core.Path.{_≡_, refl, _∙_}
 use lib.ListN.{length, drop}
-use Prim.Native.Nat.{_-_}
-use Rattle.marks.specs.Marks.{hashFrom, hashOf}
+use Prim.Native.Nat.{_-_, _≤_}
+use Rattle.marks.specs.Marks.{hashFrom}
+use Rattle.marks.proofs.Bytes.{four}
 use Rattle.marks.proofs.hash.Statement.{statement}
 use Rattle.marks.proofs.hash.Tie as tie
 
 abbrev Inv-loop : tie.InvT-loop
-Inv-loop x h₀ i₀ h i = hashFrom (drop i x) h ≡ hashOf x
+Inv-loop x h₀ i₀ h i = (i ≤ length x) × (hashFrom (drop i x) h ≡ hashFrom x 2166136261)
 
 abbrev μ-loop : tie.MeasureT-loop
 μ-loop x h₀ i₀ h i = length x - i
 
+loop-holds : tie.Need-loop-holds Inv-loop μ-loop
+loop-holds c = (search needs, refl)
+
 loop-again : tie.Need-loop-again Inv-loop μ-loop
 unfolding hashFrom
-loop-again c = let l = c .before .before .before in rw (c .wide .ensures .0) (rw (here (c .before .before .before .before .before .args .x .now) (l .loop .i) (search needs)) at (l .loop .inv))
+loop-again c =
+    let l = c .before .before .before .loop in
+    let x = c .before .before .before .before .before .args .x .now in
+    (search needs, rw (c .hash-word .ensures, c .before .four .ensures .0) (rw (four x (l .i) (search needs)) at (l .inv .1)))
 
 returns : tie.Need-returns Inv-loop μ-loop
-unfolding hashFrom
-returns c = rw (done (c .before .before .before .args .x .now) (c .before .loop .i) (search needs)) at (c .before .loop .inv)
+returns c = c .tail .ensures ∙ c .before .before .loop .inv .1
 
 pub hash-spec : {M : Type 1} → statement M
 hash-spec =
@@ -28,12 +34,12 @@ hash-spec =
     (tie.spec
     Inv-loop
     μ-loop
-    (λ c. refl)
+    loop-holds
     (λ c. search needs)
+    (λ c κs. search needs)
     (λ c κs. search needs)
     (λ c. search needs)
     (λ c. search needs)
-    (λ c. search needs)
-    (λ c. search needs)
     loop-again
+    (λ c κs. search needs)
     returns)

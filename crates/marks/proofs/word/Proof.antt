@@ -8,8 +8,7 @@ use Rattle.marks.proofs.word.Statement.{statement}
 use Rattle.marks.proofs.word.Tie as tie
 
 pub word-spec : {M : Type 1} → statement M
-word-spec =
-    tie.close
+word-spec = tie.close
     (tie.spec
     (λ c. search needs)
-    (λ c. (refl, omega (arith, and-le-r (c .args .h / 1048576) (c .args .n - 1)))))
+    (λ c. (refl, omega (arith, and-le-r (c .args .h / 281474976710656) (c .args .n - 1)))))
