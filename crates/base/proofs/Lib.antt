@@ -7,3 +7,4 @@ pub mod Over
 pub mod Fill
 pub mod Tests
 pub mod Clean
+pub mod Bytes

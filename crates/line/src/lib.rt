@@ -2,6 +2,7 @@
 pub mod form; // form.rt: the forms of arguments
 
 use text::Class;
+use text::Content;
 use text::Scan;
 ghost use mathlib.Core.Path.{_≡_};
 ghost use Prim.Native.Nat.{_+_, _≤_, _<_};
@@ -152,7 +153,7 @@ fn entry_after(s: &[u8], key: usize, name: usize) -> Line
         return Line::Bad(sign);
     }
     let value = text::classes::span_end(s, sign + 1, Class::Space);
-    match text::utf8::scan(&s[value..], Class::Value) {
+    match text::utf8::scan(&s[value..], Content::Value) {
         Scan::Sound => Line::Entry { key, name, value },
         Scan::Fault(n) => Line::Bad(value + n),
     }

@@ -7,3 +7,4 @@ pub mod Elements
 pub mod ReadBack
 pub mod Values
 pub mod Endings
+pub mod Letters

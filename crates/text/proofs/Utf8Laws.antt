@@ -12,13 +12,11 @@ use Rattle.base.specs.Choice.{pick, maybe}
 use Rattle.base.specs.Lists.{span}
 use Rattle.base.proofs.Scan.{here, done}
 use Rattle.base.proofs.Tail.{tail-lent}
-use Rattle.base.proofs.Span.{span-le}
 use Rattle.base.proofs.Tests.{and-both}
-use Rattle.text.specs.Class.{valueByte, textByte, member}
-use Rattle.text.specs.declared.Class.{Class}
-use Rattle.text.specs.declared.Class.the-variants as class
+use Rattle.text.specs.Class.{valueByte, textByte, ascii}
+use Rattle.text.specs.declared.Content.{Content}
+use Rattle.text.specs.declared.Content.the-variants as content
 use Rattle.text.specs.Utf8.{tails, step, textFault}
-use Rattle.text.specs.Step.{skipOf}
 use Rattle.text.specs.declared.Due.{Due}
 use Rattle.text.specs.declared.Due.the-variants.{Start, Tail}
 
@@ -110,20 +108,16 @@ fault-skip plain h (b ∷ s) = go (valueByte b) refl (fault-skip plain h s)
         ∙ sym (fault-cons plain Start b s ∙ ap (λ (o : Option Due). maybe o (some 0) (λ next. Option·map suc (textFault plain next s))) (step-plain plain b v (h b v)))
     go false v ih = moved-start (textFault plain Start (b ∷ s))
 
--- whatever the class
-pub skip-fault : (k : Class) (s : List ℕ) → moved (skipOf k s) (textFault (member k) Start (drop (skipOf k s) s)) ≡ textFault (member k) Start s
+-- a value's bytes stand in either content
+pub value-stands : (k : Content) (b : ℕ) → valueByte b ≡ true → ascii k b ≡ true
 unfolding textByte
-skip-fault class.Key s = moved-start (textFault (member class.Key) Start s)
-skip-fault class.Group s = moved-start (textFault (member class.Group) Start s)
-skip-fault class.Space s = moved-start (textFault (member class.Space) Start s)
-skip-fault class.Blank s = moved-start (textFault (member class.Blank) Start s)
-skip-fault class.Value s = fault-skip (member class.Value) (λ b v. v) s
-skip-fault class.Text s = fault-skip (member class.Text) (λ b v. rw v) s
+value-stands content.Value b v = v
+value-stands content.Text b v = rw v
 
-pub skip-le : (k : Class) (s : List ℕ) → skipOf k s ≤ length s
-skip-le class.Key s = omega arith
-skip-le class.Group s = omega arith
-skip-le class.Space s = omega arith
-skip-le class.Blank s = omega arith
-skip-le class.Value s = span-le valueByte s
-skip-le class.Text s = span-le valueByte s
+-- a byte of a value is a character by itself
+pub value-step : (k : Content) (b : ℕ) → valueByte b ≡ true → step (ascii k) Start b ≡ some Start
+value-step k b v = step-plain (ascii k) b v (value-stands k b v)
+
+-- those at the front are passed at once
+pub skip-fault : (k : Content) (s : List ℕ) → moved (span valueByte s) (textFault (ascii k) Start (drop (span valueByte s) s)) ≡ textFault (ascii k) Start s
+skip-fault k s = fault-skip (ascii k) (value-stands k) s

@@ -5,6 +5,8 @@ use mathlib.Core.Bool.{Bool, true, false, not, _&&_, _||_}
 use lib.Dec.{eqb, leb}
 use Rattle.text.specs.declared.Class.{Class}
 use Rattle.text.specs.declared.Class.the-variants as class
+use Rattle.text.specs.declared.Content.{Content}
+use Rattle.text.specs.declared.Content.the-variants as content
 
 -- from low to high, both included
 abbrev pub within : ℕ → ℕ → ℕ → Bool
@@ -40,5 +42,8 @@ member class.Key b = keyByte b
 member class.Group b = groupByte b
 member class.Space b = spaceByte b
 member class.Blank b = blankByte b
-member class.Value b = valueByte b
-member class.Text b = textByte b
+
+-- the ASCII bytes of a content
+abbrev pub ascii : Content → ℕ → Bool
+ascii content.Value b = valueByte b
+ascii content.Text b = textByte b

@@ -7,14 +7,11 @@ use mathlib.Core.List.{List, [], _∷_}
 use lib.ListN.{length, getD}
 use lib.Dec.{eqb, ltb, leb}
 use Rattle.base.specs.Choice.{pick, maybe}
-use Rattle.base.specs.Lists.{span}
 use Rattle.fault.specs.declared.Fault.the-variants.{BadEscape}
 use Rattle.fault.specs.Answer.{Answer, given, refused}
 use Rattle.record.specs.Record.{headLength}
-use Rattle.text.specs.Class.{within, valueByte}
+use Rattle.text.specs.Class.{within}
 use Rattle.text.specs.Utf8.{lead}
-use Rattle.text.specs.declared.Class.{Class}
-use Rattle.text.specs.declared.Class.the-variants as class
 use Rattle.text.specs.Escape.{escape}
 use Rattle.text.specs.declared.Due.{Due}
 use Rattle.text.specs.declared.Due.the-variants as due
@@ -43,15 +40,6 @@ dueOf next.Stop = none
 abbrev pub faultOf : Scan → Option ℕ
 faultOf scan.Sound = none
 faultOf (scan.Fault n) = some n
-
--- how many ASCII bytes at the front of a text of a class are passed at once
-abbrev pub skipOf : Class → List ℕ → ℕ
-skipOf class.Key s = 0
-skipOf class.Group s = 0
-skipOf class.Space s = 0
-skipOf class.Blank s = 0
-skipOf class.Value s = span valueByte s
-skipOf class.Text s = span valueByte s
 
 -- a tail byte at a place: none, one that does not fit, or what comes after it
 abbrev pub tailAt : List ℕ → ℕ → ℕ → ℕ → Rest → Rest

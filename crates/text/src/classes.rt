@@ -19,10 +19,8 @@ pub fn within(low: u8, high: u8, b: u8) -> bool
 fn is_key(b: u8) -> bool
     ensures { λ r. ⌜ r ≡ spec.keyByte b ⌝ }
 {
-    if within(b'A', b'Z', b) {
-        return true;
-    }
-    if within(b'a', b'z', b) {
+    // 0x20 parts a small letter from its capital.
+    if within(b'a', b'z', b | 0x20) {
         return true;
     }
     if within(b'0', b'9', b) {
@@ -52,13 +50,13 @@ fn is_blank(b: u8) -> bool
     b == b'\t'
 }
 
-fn is_value(b: u8) -> bool
+pub fn is_value(b: u8) -> bool
     ensures { λ r. ⌜ r ≡ spec.valueByte b ⌝ }
 {
     within(0x20, 0x7e, b)
 }
 
-fn is_text(b: u8) -> bool
+pub fn is_text(b: u8) -> bool
     ensures { λ r. ⌜ r ≡ spec.textByte b ⌝ }
 {
     if is_value(b) {
@@ -82,8 +80,6 @@ pub fn is_in(k: Class, b: u8) -> bool
         Class::Group => is_group(b),
         Class::Space => b == b' ',
         Class::Blank => is_blank(b),
-        Class::Value => is_value(b),
-        Class::Text => is_text(b),
     }
 }
 
@@ -141,8 +137,6 @@ pub fn span_end(s: &[u8], from: usize, k: Class) -> usize
         Class::Space => space_end(s, from),
         Class::Group => class_end(s, from, k),
         Class::Blank => class_end(s, from, k),
-        Class::Value => class_end(s, from, k),
-        Class::Text => class_end(s, from, k),
     }
 }
 
@@ -170,19 +164,34 @@ fn plain_16(s: &[u8], i: usize) -> bool
     n == 0
 }
 
-// Past the bytes from 0x20 to 0x7E that stand from a place on, sixteen at a time where there are so many.
+// Past the bytes from 0x20 to 0x7E that stand from a place on, one by one.
+fn value_end(s: &[u8], from: usize) -> usize
+    ensures { λ r. ⌜ r ≡ from + span spec.valueByte (drop from (now (s .entry))) ⌝ }
+{
+    let mut i = from;
+    while i < s.len() {
+        if is_value(s[i]) {
+            i += 1;
+        } else {
+            return i;
+        }
+    }
+    i
+}
+
+// The same, sixteen at a time where there are so many. The last sixteen may be partly passed already.
 pub fn plain_end(s: &[u8], from: usize) -> usize
     ensures { λ r. ⌜ r ≡ from + span spec.valueByte (drop from (now (s .entry))) ⌝ }
 {
     let mut i = from;
     while i < s.len() {
         if s.len() - i < 16 {
-            return class_end(s, i, Class::Value);
+            return value_end(s, i);
         }
         if plain_16(s, i) {
             i += 16;
         } else {
-            return class_end(s, i, Class::Value);
+            return value_end(s, i);
         }
     }
     i

@@ -16,6 +16,10 @@ pub enum Class {
     Group,
     Space,
     Blank,
+}
+
+// Which ASCII bytes stand beside the others: those of a value, or those of text to set.
+pub enum Content {
     Value,
     Text,
 }
@@ -102,7 +106,7 @@ pub fn write_text(text: &[u8], out: &mut [u8]) -> Written
     ensures answer { λ r. ⌜ answered r ≡ told (writeText (now (text .entry))) (now (out .entry)) ⌝ }
     ensures output { λ _. ⌜ now (out .exit) ≡ held (writeText (now (text .entry))) (now (out .entry)) ⌝ }
 {
-    match utf8::scan(text, Class::Text) {
+    match utf8::scan(text, Content::Text) {
         Scan::Fault(_) => Written::Refused(Fault::UnfitText),
         Scan::Sound => {
             let size = escape::raw_length(text);

@@ -1,5 +1,5 @@
 // UTF-8 (RFC 3629), a character at a time.
-use crate::Class;
+use crate::Content;
 use crate::Due;
 use crate::Next;
 use crate::Rest;
@@ -8,9 +8,9 @@ use crate::classes;
 ghost use mathlib.Core.Path.{_≡_};
 ghost use Prim.Native.Nat.{_<_};
 ghost use lib.ListN.{length};
-ghost use Rattle.text.specs.Class.{member};
+ghost use Rattle.text.specs.Class.{ascii};
 ghost use Rattle.text.specs.Utf8 as spec;
-ghost use Rattle.text.specs.Step.{dueOf, faultOf, skipOf, restAt, characterAt};
+ghost use Rattle.text.specs.Step.{dueOf, faultOf, restAt, characterAt};
 
 // A character that was begun.
 fn tail(more: u8, low: u8, high: u8) -> Next
@@ -47,17 +47,13 @@ fn lead(b: u8) -> Next
     Next::Stop
 }
 
-// How many ASCII bytes at the front are surely text: a fast way through the most frequent bytes.
-fn skip(s: &[u8], k: Class) -> usize
-    ensures { λ r. ⌜ r ≡ skipOf k (now (s .entry)) ⌝ }
+// Whether an ASCII byte may stand.
+fn may_stand(k: Content, b: u8) -> bool
+    ensures { λ r. ⌜ r ≡ ascii k b ⌝ }
 {
     match k {
-        Class::Value => classes::plain_end(s, 0),
-        Class::Text => classes::plain_end(s, 0),
-        Class::Key => 0,
-        Class::Group => 0,
-        Class::Space => 0,
-        Class::Blank => 0,
+        Content::Value => classes::is_value(b),
+        Content::Text => classes::is_text(b),
     }
 }
 
@@ -85,15 +81,46 @@ fn rest(s: &[u8], from: usize, more: u8, low: u8, high: u8) -> Rest
     Rest::Fault(i)
 }
 
-// The character that begins with a byte over 0x7F. Most have two bytes, so these come first, with what they ask for known to the compiler.
+// The last byte of a character.
+fn last_byte(s: &[u8], i: usize, low: u8, high: u8) -> Rest
+    ensures { λ r. ⌜ r ≡ restAt (now (s .entry)) i 0 low high ⌝ }
+{
+    if i < s.len() {
+        if classes::within(low, high, s[i]) {
+            return Rest::End(i + 1);
+        }
+    }
+    Rest::Fault(i)
+}
+
+// The last two bytes of a character.
+fn last_two(s: &[u8], i: usize, low: u8, high: u8) -> Rest
+    ensures { λ r. ⌜ r ≡ restAt (now (s .entry)) i 1 low high ⌝ }
+{
+    if i < s.len() {
+        if classes::within(low, high, s[i]) {
+            return last_byte(s, i + 1, 0x80, 0xbf);
+        }
+    }
+    Rest::Fault(i)
+}
+
+// The character that begins with a byte over 0x7F. Nearly all have two or three bytes: these come first, with what they ask for known to the compiler.
 fn character(s: &[u8], i: usize) -> Rest
     requires { ⌜ i < length (now s) ⌝ }
     ensures { λ r. ⌜ r ≡ characterAt (now (s .entry)) i ⌝ }
 {
-    if classes::within(0xc2, 0xdf, s[i]) {
-        return rest(s, i + 1, 0, 0x80, 0xbf);
+    let b = s[i];
+    if classes::within(0xc2, 0xdf, b) {
+        return last_byte(s, i + 1, 0x80, 0xbf);
     }
-    match lead(s[i]) {
+    if b == 0xe0 {
+        return last_two(s, i + 1, 0xa0, 0xbf);
+    }
+    if classes::within(0xe1, 0xec, b) {
+        return last_two(s, i + 1, 0x80, 0xbf);
+    }
+    match lead(b) {
         Next::Stop => Rest::Fault(i),
         Next::Is(due) => match due {
             Due::Start => Rest::End(i + 1),
@@ -103,23 +130,27 @@ fn character(s: &[u8], i: usize) -> Rest
 }
 
 // The first byte after which no ending makes a text, or the length where the text is only unfinished.
-pub fn scan(s: &[u8], k: Class) -> Scan
-    ensures { λ r. ⌜ faultOf r ≡ spec.textFault (member k) Due.Start (now (s .entry)) ⌝ }
+pub fn scan(s: &[u8], k: Content) -> Scan
+    ensures { λ r. ⌜ faultOf r ≡ spec.textFault (ascii k) Due.Start (now (s .entry)) ⌝ }
 {
-    let mut i = skip(s, k);
+    let mut i = classes::plain_end(s, 0);
     while i < s.len() {
-        if s[i] < 0x80 {
-            if classes::is_in(k, s[i]) {
-                i += 1;
-            } else {
-                return Scan::Fault(i);
-            }
+        if classes::is_value(s[i]) {
+            i += 1;
         } else {
-            match character(s, i) {
-                Rest::End(j) => {
-                    i = j;
+            if s[i] < 0x80 {
+                if may_stand(k, s[i]) {
+                    i += 1;
+                } else {
+                    return Scan::Fault(i);
                 }
-                Rest::Fault(j) => return Scan::Fault(j),
+            } else {
+                match character(s, i) {
+                    Rest::End(j) => {
+                        i = j;
+                    }
+                    Rest::Fault(j) => return Scan::Fault(j),
+                }
             }
         }
     }
