@@ -1,13 +1,14 @@
 -- How far the bytes of a class reach at the front of a list. Assumes nothing.
 use mathlib.Core.Path.{_≡_, refl, sym, ap, _∙_}
-use Prim.Native.Nat.{ℕ, zero, suc, _+_, _≤_, _<_}
+use Prim.Native.Nat.{ℕ, zero, suc, _+_, _-_, _≤_, _<_}
 use native.Mathlib.Numerals.{add-one}
 use native.Mathlib.Omega.{arith}
 use mathlib.Core.Bool.{Bool, true, false, _&&_}
 use mathlib.Core.List.{List, [], _∷_, _++_}
 use lib.ListN.{length, take, drop, getD, length-drop}
-use lib.Seq.{drop-append-le, take-suc, getD-drop}
-use lib.Dec.{eqb, eqb·zero-suc, eqb·suc-suc}
+use lib.Seq.{drop-append-le, take-suc, getD-drop, drop-drop}
+use borrow.Author.Tests.{eqb-true}
+use lib.Dec.{eqb, eqb·zero-suc, eqb·suc-zero, eqb·suc-suc}
 use Rattle.base.specs.Choice.{pick}
 use Rattle.base.specs.Lists.{span, all}
 use Rattle.base.proofs.Tests.{and-both}
@@ -21,6 +22,15 @@ span-le p (b ∷ s) = go (p b) (span-le p s)
     go : (t : Bool) → span p s ≤ length s → pick t (suc (span p s)) 0 ≤ suc (length s)
     go true h = omega arith
     go false h = omega arith
+
+-- none, where the first byte is of another class, and some, where it is not
+pub span-zero : (p : ℕ → Bool) (b : ℕ) (s : List ℕ) → p b ≡ false → span p (b ∷ s) ≡ 0
+unfolding span
+span-zero p b s e = rw e
+
+pub span-some : (p : ℕ → Bool) (b : ℕ) (s : List ℕ) → p b ≡ true → eqb (span p (b ∷ s)) 0 ≡ false
+unfolding span
+span-some p b s e = rw e (eqb·suc-zero (span p s))
 
 -- from a place inside on, they end inside
 pub span-from : (p : ℕ → Bool) (s : List ℕ) (from : ℕ) → from ≤ length s → from + span p (drop from s) ≤ length s
@@ -123,6 +133,19 @@ span-skip p (suc n) [] h e = absurd (omega arith)
 span-skip p (suc n) (b ∷ s) h e =
     let q = and-both (p b) (all p (take n s)) e in
     rw (q .0) (omega (arith, span-skip p n s (omega arith) (q .1)))
+
+all-drop : (p : ℕ → Bool) (n : ℕ) (s : List ℕ) → all p s ≡ true → all p (drop n s) ≡ true
+unfolding all
+all-drop p zero s e = e
+all-drop p (suc n) [] e = e
+all-drop p (suc n) (b ∷ s) e = all-drop p n s (and-both (p b) (all p s) e .1)
+
+-- where the bytes from an earlier place on are all of the class, the span goes to the end
+pub span-last : (p : ℕ → Bool) (s : List ℕ) (m i : ℕ) → m ≤ i → i ≤ length s → all p (drop m s) ≡ true → length s ≡ i + span p (drop i s)
+span-last p s m i h l e =
+    let k : m + (i - m) ≡ i = omega arith in
+    let f : all p (drop i s) ≡ true = sym (ap (λ (t : List ℕ). all p t) (drop-drop (i - m) m s ∙ ap (λ (n : ℕ). drop n s) k)) ∙ all-drop p (i - m) (drop m s) e in
+    omega (arith, eqb-true (span p (drop i s)) (length (drop i s)) (span-all p (drop i s) ∙ f), length-drop i s)
 
 -- ---- a scan in progress: what is left to pass from i is the whole answer
 

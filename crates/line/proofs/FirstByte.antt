@@ -1,14 +1,16 @@
 -- What the first byte of a line says of its reading. Assumes nothing.
 use mathlib.Core.Path.{_≡_, refl, sym, _∙_}
-use Prim.Native.Nat.{ℕ, suc, _+_}
+use Prim.Native.Nat.{ℕ, suc, _+_, _<_}
+use native.Mathlib.Omega.{arith}
 use mathlib.Core.Bool.{Bool, true, false, _||_, false≢true}
 use mathlib.Core.Option.{Option, none, some}
 use mathlib.Core.List.{List, [], _∷_}
 use lib.ListN.{length, drop}
 use lib.Dec.{eqb, eqb·zero-suc}
-use borrow.Author.Tests.{eqb-true}
+use borrow.Author.Tests.{eqb-true, ne-eqb}
 use Rattle.base.specs.Choice.{pick, maybe}
 use Rattle.base.specs.Lists.{span}
+use Rattle.base.proofs.Span.{span-zero, span-some}
 use Rattle.text.specs.Class.{keyByte, groupByte, spaceByte, blankByte, valueByte}
 use Rattle.text.specs.Utf8.{textFault}
 use Rattle.text.specs.declared.Due.the-variants.{Start}
@@ -122,3 +124,35 @@ unheaded-line s h = rw h (go (eqb blank (length s)) (eqb (byteAt s 0) 35) (eqb b
     go false true w i j = comment-name s j
     go false false true i j = entry-unheaded s
     go false false false i j = tt
+
+-- ---- the reading of a line, by its first byte
+
+pub line-empty : (s : List ℕ) → length s ≡ 0 → Blank ≡ readLine s
+unfolding readLine span
+line-empty [] e = refl
+line-empty (b ∷ s) e = absurd (omega arith)
+
+pub line-comment : (s : List ℕ) → 0 < length s → byteAt s 0 ≡ 35 → Comment ≡ readLine s
+unfolding readLine span blankByte
+line-comment [] h e = absurd (omega arith)
+line-comment (b ∷ s) h e = rw (e, eqb·zero-suc (length s))
+
+module _ (s : List ℕ) (h : 0 < length s) (n : byteAt s 0 ≡ 35 → ⊥) (m : byteAt s 0 ≡ 91 → ⊥) where
+  pub line-blank : blankByte (byteAt s 0) ≡ true → readLine s ≡ pick (eqb (span blankByte s) (length s)) Blank (Bad (span blankByte s))
+  unfolding readLine
+  line-blank e = by s h n m e
+    where
+      by : (s : List ℕ) → 0 < length s → (byteAt s 0 ≡ 35 → ⊥) → (byteAt s 0 ≡ 91 → ⊥) → blankByte (byteAt s 0) ≡ true
+          → readLine s ≡ pick (eqb (span blankByte s) (length s)) Blank (Bad (span blankByte s))
+      by [] h n m e = absurd (omega arith)
+      by (b ∷ s) h n m e =
+          let z : eqb (span blankByte (b ∷ s)) 0 ≡ false = span-some blankByte b s e in
+          rw (ne-eqb b 35 n, ne-eqb b 91 m, z)
+
+  pub line-entry : blankByte (byteAt s 0) ≡ false → readLine s ≡ readEntry s
+  unfolding readLine
+  line-entry e = by s h n m e
+    where
+      by : (s : List ℕ) → 0 < length s → (byteAt s 0 ≡ 35 → ⊥) → (byteAt s 0 ≡ 91 → ⊥) → blankByte (byteAt s 0) ≡ false → readLine s ≡ readEntry s
+      by [] h n m e = absurd (omega arith)
+      by (b ∷ s) h n m e = rw (span-zero blankByte b s e, ne-eqb b 35 n, ne-eqb b 91 m, eqb·zero-suc (length s))

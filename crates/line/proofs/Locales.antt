@@ -1,13 +1,14 @@
 -- A locale at the front of a list: its parts stay inside, and what asks for one asks `localeAt`. Assumes nothing.
-use mathlib.Core.Path.{_≡_, refl, _∙_}
-use Prim.Native.Nat.{ℕ, suc, _+_, _-_, _≤_}
+use mathlib.Core.Path.{_≡_, refl, sym, ap, _∙_}
+use Prim.Native.Nat.{ℕ, zero, suc, _+_, _-_, _≤_, _<_}
 use native.Mathlib.Omega.{arith}
 use mathlib.Core.Bool.{Bool, true, false}
 use mathlib.Core.Option.{Option, none, some}
 use mathlib.Core.List.{List, [], _∷_}
 use lib.ListN.{length, take, drop, length-drop}
 use lib.Dec.{eqb}
-use borrow.Author.Tests.{eqb-true}
+use lib.Seq.{getD-drop}
+use borrow.Author.Tests.{eqb-true, ne-eqb}
 use Rattle.base.specs.Choice.{pick, maybe}
 use Rattle.base.specs.Lists.{span}
 use Rattle.base.proofs.Span.{span-le}
@@ -80,6 +81,25 @@ locale-within s = go (emptyPart (parts s)) (parts-within s) (empty-within (parts
 pub locale-lent : (s : List ℕ) (from : ℕ) → LocaleWithin (length s - from) (localeAt (take (length s - from) (drop from s)))
 locale-lent s from = rw (tail-lent from s, ← length-drop from s) (locale-within (drop from s))
 
+-- ---- a language alone
+
+-- no part begins with another byte than its mark
+marked-other : (mark : ℕ) (s : List ℕ) (n : ℕ) → (byteAt s n ≡ mark → ⊥) → marked mark (drop n s) ≡ 0
+unfolding marked
+marked-other mark [] zero h = refl
+marked-other mark [] (suc n) h = refl
+marked-other mark (b ∷ s) zero h = rw (ne-eqb b mark h)
+marked-other mark (b ∷ s) (suc n) h = marked-other mark s n h
+
+locale-short : (s : List ℕ) (l : ℕ) → l ≡ span keyByte s → 0 < l → byteAt s l ≡ 93 → localeAt s ≡ locale.End l
+unfolding localeAt emptyPart parts
+locale-short s l e h b =
+    let z : l + 0 ≡ l = omega arith in
+    let c : marked 95 (drop l s) ≡ 0 = marked-other 95 s l (λ q. omega arith) in
+    let d : marked 46 (drop l s) ≡ 0 = marked-other 46 s l (λ q. omega arith) in
+    let f : marked 64 (drop l s) ≡ 0 = marked-other 64 s l (λ q. omega arith) in
+    rw (← e, c, z, d, z, f, z, ne-eqb l 0 (λ q. omega arith))
+
 -- ---- what asks for a locale
 
 -- a postfix from the reading of its locale
@@ -119,3 +139,11 @@ locale-by s = go (emptyPart (parts s))
         → maybe o (eqb (localeEnd (parts s)) (length s)) (λ n. false) ≡ endsAt (length s) (maybe o (locale.End (localeEnd (parts s))) locale.Unfinished)
     go none = refl
     go (some n) = refl
+
+-- a postfix that is a language alone
+pub postfix-short : (s : List ℕ) (key n : ℕ) → n ≡ key + 1 + span keyByte (drop (key + 1) s) → key + 1 < n → byteAt s n ≡ 93 → Name key (n + 1) ≡ postfixAt s key
+postfix-short s key n e h b =
+    let l : ℕ = span keyByte (drop (key + 1) s) in
+    let f : byteAt (drop (key + 1) s) l ≡ 93 = getD-drop (key + 1) s l 0 ∙ sym (ap (byteAt s) e) ∙ b in
+    let q : localeAt (drop (key + 1) s) ≡ locale.End l = locale-short (drop (key + 1) s) l refl (omega arith) f in
+    rw (postfix-by s key, q, ← e, b)

@@ -112,12 +112,21 @@ pub fn locale_at(s: &[u8]) -> Locale
     Locale::End(lang + country + encoding + modifier)
 }
 
-// The postfix whose `[` stands at key.
+// The postfix whose `[` stands at key. Most are a language alone.
 fn postfix(s: &[u8], key: usize) -> Named
     requires { ⌜ key < length (now s) ⌝ }
     ensures { λ r. ⌜ r ≡ name.postfixAt (now (s .entry)) key ⌝ }
 {
     let from = key + 1;
+    let lang = text::classes::span_end(s, from, Class::Key);
+    if byte_at(s, lang) == b']' {
+        if from < lang {
+            return Named::Name {
+                key,
+                name: lang + 1,
+            };
+        }
+    }
     match locale_at(&s[from..]) {
         Locale::Unfinished(n) => Named::NoName(from + n),
         Locale::End(n) => {
@@ -185,23 +194,26 @@ fn read_header(s: &[u8]) -> Line
     Line::Bad(e + 1)
 }
 
-// What a line is; s is the line without its LF.
+// What a line is; s is the line without its LF. The first byte decides what it can be.
 pub fn read_line(s: &[u8]) -> Line
     ensures { λ r. ⌜ r ≡ spec.readLine (now (s .entry)) ⌝ }
 {
-    let blank = text::classes::span_end(s, 0, Class::Blank);
-    if blank == s.len() {
+    if s.len() == 0 {
         return Line::Blank;
     }
-    let first = byte_at(s, 0);
+    let first = s[0];
     if first == b'#' {
         return Line::Comment;
     }
     if first == b'[' {
         return read_header(s);
     }
-    if blank == 0 {
-        return read_entry(s);
+    if text::classes::is_in(Class::Blank, first) {
+        let blank = text::classes::span_end(s, 0, Class::Blank);
+        if blank == s.len() {
+            return Line::Blank;
+        }
+        return Line::Bad(blank);
     }
-    Line::Bad(blank)
+    read_entry(s)
 }

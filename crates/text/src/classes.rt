@@ -179,14 +179,27 @@ fn value_end(s: &[u8], from: usize) -> usize
     i
 }
 
-// The same, sixteen at a time where there are so many. The last sixteen may be partly passed already.
+// The same where fewer than sixteen bytes are left: the last sixteen are looked at once more, if there are so many.
+fn short_end(s: &[u8], from: usize) -> usize
+    requires { ⌜ (from ≤ length (now s)) × (length (now s) ≤ from + 16) ⌝ }
+    ensures { λ r. ⌜ r ≡ from + span spec.valueByte (drop from (now (s .entry))) ⌝ }
+{
+    if 16 <= s.len() {
+        if plain_16(s, s.len() - 16) {
+            return s.len();
+        }
+    }
+    value_end(s, from)
+}
+
+// The same, sixteen at a time where there are so many.
 pub fn plain_end(s: &[u8], from: usize) -> usize
     ensures { λ r. ⌜ r ≡ from + span spec.valueByte (drop from (now (s .entry))) ⌝ }
 {
     let mut i = from;
     while i < s.len() {
         if s.len() - i < 16 {
-            return value_end(s, i);
+            return short_end(s, i);
         }
         if plain_16(s, i) {
             i += 16;

@@ -31,8 +31,8 @@ returns : tie.Need-returns
 unfolding entryAfter
 returns c = rw (← c .before .before .span-end .ensures, ← c .before .byte-at .ensures, ne-eqb _ _ (c .if1 .taken))
 
-add-t16 : tie.Need-add-t16
-add-t16 c =
+add-t17 : tie.Need-add-t17
+add-t17 c =
     let m = c .before in
     let f = m .before .before in
     let v = f .before .before in
@@ -72,6 +72,6 @@ entry-after-spec =
     (λ c κs. search needs)
     (λ c. search needs)
     (λ c. search needs)
-    add-t16
+    add-t17
     returns-2
     returns-3)

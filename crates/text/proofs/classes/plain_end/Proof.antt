@@ -39,11 +39,11 @@ plain-end-spec =
     (λ c. refl)
     (λ c. search needs)
     (λ c κs. search needs)
-    (λ c. c .value-end .ensures ∙ c .before .before .before .loop .inv)
+    (λ c. c .short-end .ensures ∙ c .before .before .before .loop .inv)
     (λ c κs. search needs)
     (λ c. search needs)
     (λ c. search needs)
     loop-again
     (λ c κs. search needs)
-    (λ c. c .value-end2 .ensures ∙ c .before .before .before .before .before .loop .inv)
+    (λ c. c .value-end .ensures ∙ c .before .before .before .before .before .loop .inv)
     returns-3)
