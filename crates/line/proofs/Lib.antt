@@ -6,3 +6,4 @@ pub mod Ending
 pub mod Place
 pub mod Entries
 pub mod FirstByte
+pub mod Written

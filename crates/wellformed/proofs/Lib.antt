@@ -3,3 +3,4 @@ pub mod Accepts
 pub mod Known
 pub mod Checking
 pub mod Plain
+pub mod ByLines

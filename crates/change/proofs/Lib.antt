@@ -1,0 +1,5 @@
+pub mod Titles
+pub mod LineEdits
+pub mod LineValues
+pub mod Accepted
+pub mod Kept

@@ -1,0 +1,18 @@
+-- A do block that gives an answer passed each of its lines. Assumes nothing.
+use mathlib.Core.Path.{_≡_, refl}
+use mathlib.Core.Bool.{Bool, true, false}
+use mathlib.Core.Option.{Option, none, some}
+use Rattle.base.proofs.Tests.{no}
+use Rattle.fault.specs.declared.Fault.{Fault}
+use Rattle.fault.specs.Answer.{Answer, given, refused, _>>=_, need, some-or}
+
+pub need-given : {A : Type 0} (t : Bool) (f : Fault) (k : Unit {0} → Answer A) (a : A) → (need t f >>= k) ≡ given a → (t ≡ true) × (k tt ≡ given a)
+need-given true f k a e = (refl, e)
+need-given false f k a e = no (cc)
+
+pub some-given : {A B : Type 0} (o : Option A) (f : Fault) (k : A → Answer B) (b : B) → (some-or o f >>= k) ≡ given b → (a : A) × (o ≡ some a) × (k a ≡ given b)
+some-given (some a) f k b e = (a, refl, e)
+some-given none f k b e = no (cc)
+
+pub given-is : {A : Type 0} (a b : A) → given a ≡ given b → a ≡ b
+given-is a b e = cc
