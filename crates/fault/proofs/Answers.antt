@@ -1,10 +1,14 @@
 -- A do block that gives an answer passed each of its lines. Assumes nothing.
 use mathlib.Core.Path.{_≡_, refl}
-use mathlib.Core.Bool.{Bool, true, false}
+use mathlib.Core.Bool.{Bool, true, false, false≢true}
 use mathlib.Core.Option.{Option, none, some}
 use Rattle.base.proofs.Tests.{no}
 use Rattle.fault.specs.declared.Fault.{Fault}
-use Rattle.fault.specs.Answer.{Answer, given, refused, _>>=_, need, some-or}
+use Rattle.fault.specs.Answer.{Answer, given, refused, _>>=_, need, some-or, accepted}
+
+pub bind-given : {A B : Type 0} (x : Answer A) (k : A → Answer B) (b : B) → (x >>= k) ≡ given b → (a : A) × (x ≡ given a) × (k a ≡ given b)
+bind-given (given a) k b e = (a, refl, e)
+bind-given (refused f) k b e = no (cc)
 
 pub need-given : {A : Type 0} (t : Bool) (f : Fault) (k : Unit {0} → Answer A) (a : A) → (need t f >>= k) ≡ given a → (t ≡ true) × (k tt ≡ given a)
 need-given true f k a e = (refl, e)
@@ -14,5 +18,11 @@ pub some-given : {A B : Type 0} (o : Option A) (f : Fault) (k : A → Answer B) 
 some-given (some a) f k b e = (a, refl, e)
 some-given none f k b e = no (cc)
 
+-- what was given is one thing
 pub given-is : {A : Type 0} (a b : A) → given a ≡ given b → a ≡ b
 given-is a b e = cc
+
+-- what is accepted was given
+pub accepted-given : (a : Answer (Unit {0})) → accepted a ≡ true → a ≡ given tt
+accepted-given (given tt) e = refl
+accepted-given (refused f) e = absurd (false≢true e)

@@ -10,7 +10,7 @@ use borrow.Author.Tests.{eq-eqb, ne-eqb, le-leb}
 use Rattle.base.specs.Lists.{joined}
 use Rattle.base.proofs.Lists.{map-append}
 use Rattle.record.specs.Number.{littleEndian, numberOf}
-use Rattle.record.specs.Record.{Rec, recordBytes, recordLength, listBytes}
+use Rattle.record.specs.Record.{recordBytes, recordLength, listBytes}
 use Rattle.record.proofs.Numbers.{fits-four, number-back}
 use Rattle.record.proofs.Sizes.{length-record, list-cons, list-append}
 use Rattle.record.proofs.Back.{Fits, fits, FitsAll, no-record, one-more, cut-back}

@@ -1,5 +1,5 @@
 -- Entries that are written read as entries: another value after the same name, and a new name with its value. Assumes nothing.
-use mathlib.Core.Path.{_≡_, refl, sym, ap, _∙_}
+use mathlib.Core.Path.{_≡_, refl, ap, _∙_}
 use Prim.Native.Nat.{ℕ, suc, _+_, _<_}
 use native.Mathlib.Omega.{arith}
 use mathlib.Core.Bool.{Bool, true, false, false≢true}
@@ -18,16 +18,16 @@ use Rattle.text.specs.Class.{keyByte, spaceByte, blankByte, valueByte}
 use Rattle.text.specs.Utf8.{textFault}
 use Rattle.text.specs.declared.Due.the-variants.{Start}
 use Rattle.text.proofs.Values.{value-clean}
-use Rattle.line.specs.Locale.{marked, parts, localeEnd, emptyPart}
-use Rattle.line.specs.Name.{byteAt, readName}
+use Rattle.line.specs.Locale.{marked, parts, localeEnd}
+use Rattle.line.specs.Name.{readName}
 use Rattle.line.specs.Line.{entryAfter, readEntry, readLine}
 use Rattle.line.specs.Form.{keyForm, namesAll}
 use Rattle.line.specs.declared.Named.{Named}
 use Rattle.line.specs.declared.Named.the-variants.{Name, NoName}
 use Rattle.line.specs.declared.Line.the-variants.{Entry}
-use Rattle.line.proofs.Bounds.{LineWithin, line-within}
-use Rattle.line.proofs.Cases.{signAt, valueAt, line-first}
-use Rattle.line.proofs.Entries.{IsEntry, is-entry, IsName, is-name, plain-name, postfixed, bracket}
+use Rattle.line.proofs.Bounds.{line-within}
+use Rattle.line.proofs.Cases.{signAt, line-first}
+use Rattle.line.proofs.Entries.{is-entry, IsName, is-name, plain-name, postfixed, bracket}
 use Rattle.line.proofs.FirstByte.{no-name}
 use Rattle.line.proofs.Fronts.{NoKey, name-same, after-same}
 

@@ -1,6 +1,6 @@
 -- A well-formed file by its lines alone, whatever ends its rows. Assumes nothing.
 use mathlib.Core.Path.{_≡_, refl, sym, ap, ap₂, _∙_}
-use Prim.Native.Nat.{ℕ, suc, _+_}
+use Prim.Native.Nat.{ℕ}
 use mathlib.Core.Bool.{Bool, true, false, not, _&&_, _||_}
 use mathlib.Core.List.{List, [], _∷_, _++_}
 use lib.ListN.{length}
@@ -9,9 +9,8 @@ use borrow.Author.Tests.{not-true}
 use Rattle.base.specs.Lists.{any}
 use Rattle.base.proofs.Search.{any-middle, any-as}
 use Rattle.base.proofs.Tests.{and-both}
-use Rattle.rows.specs.Rows.{Row, rows, lineOf, rowsFrom, readRows}
+use Rattle.rows.specs.Rows.{Row, readRows}
 use Rattle.rows.specs.Title.{Title, Nameless, Group, Key, title, sameTitle, titles}
-use Rattle.rows.proofs.Rows.{rowOf}
 use Rattle.rows.proofs.Titles.{sameTitle-sym, any-titles, has-titles}
 use Rattle.rows.proofs.Sight.{titlesIn, badLine, linesOf, titles-file, bad-file}
 use Rattle.wellformed.specs.Check.{fileMost, plainOf, plainTitle, wanted, noPlain}
