@@ -1,6 +1,6 @@
 -- The examples hold, by computation: a wrong row is shown by its place in the two lists. Assumes nothing.
 use mathlib.Core.Path.{refl}
-use Rattle.base.specs.Lists.{same, span, any, all, first}
+use Rattle.base.specs.Lists.{same, span, any, all, first, last}
 use Rattle.text.specs.Class.{keyByte, groupByte, blankByte, valueByte, textByte}
 use Rattle.text.specs.Utf8.{lead, step, textFault}
 use Rattle.text.specs.Escape.{textEscape, escape, textFrom, readText, escaped, escapedAll, rawText, fitText, writeText}
@@ -9,18 +9,26 @@ use Rattle.line.specs.Locale.{marked, parts, emptyPart, isLocale}
 use Rattle.line.specs.Name.{postfixAt, readName}
 use Rattle.line.specs.Line.{entryAfter, readEntry, readHeader, readLine}
 use Rattle.line.specs.Form.{groupForm, plainForm, keyForm, localeForm}
-use Rattle.rows.specs.Rows.{rows, lineOf, rowsFrom, readRows}
+use Rattle.record.specs.Number.{littleEndian, numberOf}
+use Rattle.record.specs.Record.{headBytes, recordBytes, cutAfter}
+use Rattle.rows.specs.Rows.{rows, lineOf, ended, rowsFrom, readRows, rawValue}
 use Rattle.rows.specs.Title.{title, sameTitle, findRow}
 use Rattle.wellformed.specs.Check.{titleFault, earliest, plainOf, noPlain, titledAs, plainAll, checkAs}
 use Rattle.choice.specs.Locale.{stripped, plainLocale, candidates, firstKey, chosen}
 use Rattle.entry.specs.Lookup.{valueEnds, lookup}
 use Rattle.entry.specs.Choose.{choose}
+use Rattle.splice.specs.Edit.{spliced, bufferWith}
+use Rattle.change.specs.Change.{inserting, setEdit, editOf}
+use Rattle.journal.specs.Journal.{editRecord, readEdits, partedAt, readJournal}
+use Rattle.edit.specs.Calls.{lengthsFit, opened, request}
 use Rattle.demands.specs.Examples.{ExamplesHold}
 
 pub examples-hold : ExamplesHold
-unfolding same span any all first keyByte groupByte blankByte valueByte textByte lead step textFault
+unfolding same span any all first last keyByte groupByte blankByte valueByte textByte lead step textFault
     textEscape escape textFrom readText escaped escapedAll rawText fitText writeText rawElements eachRead elementsOf
     marked parts emptyPart isLocale postfixAt readName entryAfter readEntry readHeader readLine groupForm plainForm keyForm localeForm
     rows lineOf rowsFrom readRows title sameTitle findRow titleFault earliest plainOf noPlain titledAs plainAll checkAs
     stripped plainLocale candidates firstKey chosen valueEnds lookup choose
+    littleEndian numberOf headBytes recordBytes cutAfter ended rawValue spliced bufferWith inserting setEdit editOf
+    editRecord readEdits partedAt readJournal lengthsFit opened request
 examples-hold = refl

@@ -1,19 +1,18 @@
 -- Checking, lookup and choice together. Assumes nothing.
 use mathlib.Core.Path.{_≡_, refl, sym, ap, _∙_}
-use Prim.Native.Nat.{ℕ, zero, suc, _+_}
-use native.Mathlib.Omega.{arith}
+use Prim.Native.Nat.{ℕ, suc}
 use mathlib.Core.Bool.{Bool, true, false, not, _&&_, _||_, false≢true}
 use mathlib.Core.Option.{Option, none, some}
-use mathlib.Core.List.{List, [], _∷_, _++_, append-assoc, map}
-use lib.ListN.{length, take}
+use mathlib.Core.List.{List, [], _∷_, _++_, append-assoc}
+use lib.ListN.{length}
 use lib.Seq.{take-append-seam}
 use lib.Dec.{eqb, leb}
 use Rattle.base.specs.Choice.{pick, maybe, there}
-use Rattle.base.specs.Lists.{ascii, span, all, any, first}
+use Rattle.base.specs.Lists.{span, all, any, first}
 use Rattle.base.proofs.Tests.{no, and-both, or-both}
-use Rattle.base.proofs.Search.{there-first}
 use Rattle.fault.specs.declared.Fault.the-variants.{BadArgument, Missing}
-use Rattle.fault.specs.Answer.{Answer, given, refused, _>>=_, need, some-or, accepted}
+use Rattle.fault.specs.Answer.{Answer, given, refused, _>>=_, need, some-or}
+use Rattle.fault.proofs.Answers.{accepted-given}
 use Rattle.text.specs.Class.{keyByte}
 use Rattle.line.specs.Line.{isBad}
 use Rattle.line.specs.Form.{groupForm, keyForm, plainForm, localeForm}
@@ -26,17 +25,13 @@ use Rattle.wellformed.proofs.Accepts.{check-accepts}
 use Rattle.choice.specs.Locale.{candidates, postfixed, firstKey, chosen}
 use Rattle.choice.proofs.Chosen.{chosen-there}
 use Rattle.choice.proofs.Choices.{first-append}
-use Rattle.entry.specs.Lookup.{Extent, valueEnds, lookup}
+use Rattle.entry.specs.Lookup.{valueEnds, lookup}
 use Rattle.entry.specs.Choose.{choose}
 use Rattle.demands.specs.Files.{LookupMisses, ChoiceMisses, ChoiceTakesFirst}
 
 -- ---- a well-formed file passes the check, and each postfixed key stands plain too
 
-accepted-given : (a : Answer (Unit {0})) → accepted a ≡ true → a ≡ given tt
-accepted-given (given tt) e = refl
-accepted-given (refused f) e = absurd (false≢true e)
-
-checks : (file : List ℕ) → wellFormed file ≡ true → check file ≡ given tt
+pub checks : (file : List ℕ) → wellFormed file ≡ true → check file ≡ given tt
 unfolding CheckAccepts
 checks file w = accepted-given (check file) (check-accepts desktopEntry file ∙ w)
 
@@ -103,7 +98,7 @@ missing : (o : Option Row) → ((some-or o Missing >>= λ r. given (valueEnds r)
 missing none = (λ e. refl, λ e. refl)
 missing (some r) = (λ e. no (cc), λ e. no (cc))
 
-lookup-is : (file group key : List ℕ) → wellFormed file ≡ true → (groupForm group && keyForm key) ≡ true
+pub lookup-is : (file group key : List ℕ) → wellFormed file ≡ true → (groupForm group && keyForm key) ≡ true
     → lookup file group key ≡ (some-or (findRow (readRows file) (Key group key)) Missing >>= λ r. given (valueEnds r))
 unfolding lookup
 lookup-is file group key w f = rw (checks file w) (answers (groupForm group && keyForm key) (some-or (findRow (readRows file) (Key group key)) Missing >>= λ r. given (valueEnds r)) f)

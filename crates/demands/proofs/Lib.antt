@@ -1,3 +1,6 @@
 pub mod ReadBackLaws
 pub mod FileLaws
+pub mod EditLaws
+pub mod BookLaws
+pub mod Agreement
 pub mod ExampleTable

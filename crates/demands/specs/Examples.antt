@@ -2,7 +2,7 @@
 use Prim.Native.Nat.{ℕ}
 use mathlib.Core.Path.{_≡_}
 use mathlib.Core.List.{List, [], _∷_, _++_, map}
-use lib.ListN.{length}
+use lib.ListN.{length, take, replicate}
 use Rattle.base.specs.Lists.{ascii}
 use Rattle.fault.specs.Table.{numberOf, placeOf}
 use Rattle.fault.specs.Answer.{Answer, given, refused}
@@ -11,6 +11,9 @@ use Rattle.text.specs.Element.{elementsOf}
 use Rattle.wellformed.specs.Check.{check}
 use Rattle.entry.specs.Lookup.{Extent, lookup, partOf}
 use Rattle.entry.specs.Choose.{choose}
+use Rattle.change.specs.Change.{Set}
+use Rattle.edit.specs.Calls.{request}
+use Rattle.demands.specs.Demand3.{startState}
 
 -- what an example shows: some lists of bytes, or a refusal's number and place
 pub data Shown : Type 0 where
@@ -63,6 +66,12 @@ reads raw = shown (λ s. s ∷ []) (readText raw)
 abbrev pub writes : List ℕ → Shown
 writes text = shown (λ s. s ∷ []) (writeText text)
 
+-- T with this Name set: the length of the file, its buffer, and the journal's used bytes
+abbrev pub setName : List ℕ → Shown
+setName text =
+    shown (λ t. (t .size ∷ []) ∷ t .file ∷ take (t .used) (t .journal) ∷ [])
+    (request (startState fileT [] (replicate 26 0)) (Set (ascii "Desktop Entry") (ascii "Name") text))
+
 -- the table
 abbrev pub examples : List Example
 examples =
@@ -80,6 +89,14 @@ examples =
     }
     ∷ record { asked = writes (ascii " x"); expected = Gives (ascii "\\sx" ∷ []) }
     ∷ record { asked = reads (ascii "a\\q"); expected = Refuses 9 1 }
+    ∷ record {
+      asked = setName (ascii "Les");
+      expected = Gives (
+          (69 ∷ [])
+          ∷ (file (ascii "[Desktop Entry]" ∷ ascii "Type=Application" ∷ ascii "Name=Les" ∷ ascii "Name[fr]=Lire" ∷ ascii "Exec=view %F" ∷ []) ++ (0 ∷ 0 ∷ []))
+          ∷ (0x1a ∷ 0 ∷ 0 ∷ 0 ∷ 1 ∷ 0 ∷ 0x26 ∷ 0 ∷ 0 ∷ 0 ∷ 5 ∷ 0 ∷ 0 ∷ 0 ∷ 3 ∷ 0 ∷ 0 ∷ 0 ∷ 0x4c ∷ 0x65 ∷ 0x73 ∷ 0x65 ∷ 0x6e ∷ 0x4c ∷ 0x65 ∷ 0x73 ∷ [])
+          ∷ []);
+    }
     ∷ []
 
 -- the claim: what is asked is what is expected, row by row

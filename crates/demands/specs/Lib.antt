@@ -1,3 +1,6 @@
 pub mod ReadBack
 pub mod Files
+pub mod Edits
+pub mod Book
+pub mod Demand3
 pub mod Examples

@@ -98,7 +98,7 @@ redo s = do
   e ← some-or (nextOf (j .wait)) NothingLeft
   replayed s e (s .standing + editLength e)
 
--- what is lent as the call returns: a refusal changes nothing
-abbrev pub atExit : State → Answer State → State
-atExit s (given t) = t
-atExit s (refused f) = s
+-- what is there as a call returns: a refusal changes nothing
+abbrev pub atExit : {A : Type 0} → A → Answer A → A
+atExit a (given b) = b
+atExit a (refused f) = a

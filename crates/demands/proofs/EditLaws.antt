@@ -1,0 +1,189 @@
+-- An accepted set or remove leaves a well-formed file, is read back, and changes what no other key reads. Assumes nothing.
+use mathlib.Core.Path.{_≡_, refl, sym, ap, _∙_}
+use Prim.Native.Nat.{ℕ, _+_, _-_}
+use mathlib.Core.Bool.{Bool, true, false, _&&_}
+use mathlib.Core.Option.{Option, none, some, Option·map}
+use mathlib.Core.List.{List, []}
+use lib.ListN.{length, take}
+use lib.Dec.{leb}
+use Rattle.base.specs.Choice.{pick}
+use Rattle.base.specs.Lists.{part}
+use Rattle.base.specs.Over.{over}
+use Rattle.base.proofs.Tests.{no, and-both, by-test}
+use Rattle.fault.specs.declared.Fault.the-variants.{BadArgument, Missing, NoRoom, JournalFull, Damaged}
+use Rattle.fault.specs.Answer.{Answer, given, refused, _>>=_, need, some-or, then, accepted}
+use Rattle.fault.proofs.Answers.{need-given, bind-given, given-is}
+use Rattle.record.specs.Record.{recordBytes}
+use Rattle.text.specs.Escape.{rawText}
+use Rattle.text.proofs.ReadBack.{read-back}
+use Rattle.line.specs.Form.{groupForm, keyForm}
+use Rattle.rows.specs.Rows.{Row, readRows, rawValue}
+use Rattle.rows.specs.Title.{desktopEntry, Title, Key, sameTitle, findRow}
+use Rattle.rows.proofs.Titles.{same-key}
+use Rattle.rows.proofs.Sight.{linesOf}
+use Rattle.rows.proofs.Told.{found-row, value-stands}
+use Rattle.wellformed.specs.Check.{fileMost, check}
+use Rattle.wellformed.specs.WellFormed.{wellFormed, CheckAccepts}
+use Rattle.wellformed.proofs.Accepts.{check-accepts}
+use Rattle.entry.specs.Lookup.{Extent, valueEnds, lookup}
+use Rattle.splice.specs.Edit.{Edit, spliced, bufferWith}
+use Rattle.splice.proofs.Splits.{buffer-content}
+use Rattle.change.specs.Change.{Request, Set, Remove, editOf}
+use Rattle.change.proofs.LineValues.{valueIn, value-file}
+use Rattle.change.proofs.Accepted.{set-of, remove-of, edit-undone}
+use Rattle.change.proofs.Kept.{After, after-set, after-remove}
+use Rattle.journal.specs.Journal.{Journal, editRecord, editLength, readJournal}
+use Rattle.edit.specs.Calls.{State, content, lengthsFit, opened, fileFits, recordFits, request}
+use Rattle.demands.specs.Edits.{handed, EditKeepsWellFormed, OthersReadAsBefore, SetIsReadBack, RemovedIsMissing, TurnedRound}
+use Rattle.demands.proofs.FileLaws.{checks, lookup-is}
+
+-- ---- what an accepted call says
+
+pub fits-most : (room : ℕ) (f : List ℕ) → fileFits room f ≡ true → leb (length f) fileMost ≡ true
+fits-most room f h = and-both (leb (length f) room) (leb (length f) fileMost) h .1
+
+-- what is lent after a request that makes this edit of a file
+abbrev pub requested : State → List ℕ → Edit → State
+requested s f e =
+    record {
+      file = bufferWith (s .file) (s .size) (spliced e f);
+      size = length (spliced e f);
+      journal = over (s .journal) (s .standing) (recordBytes (editRecord e));
+      used = s .standing + editLength e;
+      standing = s .standing + editLength e;
+    }
+
+-- the file was well formed, the edit is the request's, and what is left is the file after it
+record Done (s t : State) (q : Request) : Type 0 where
+  pub edit : Edit
+  pub edits : editOf (content s) q ≡ given edit
+  pub well : wellFormed (content s) ≡ true
+  pub most : leb (length (spliced edit (content s))) fileMost ≡ true
+  pub left : content t ≡ spliced edit (content s)
+
+pub opened-well : (s : State) (j : Journal) → opened s ≡ given j → wellFormed (content s) ≡ true
+unfolding opened CheckAccepts
+opened-well s j e =
+    let journal : Answer Journal = some-or (readJournal (take (s .used) (s .journal)) (s .standing)) Damaged in
+    let a = need-given (lengthsFit s) Damaged (λ _. check (content s) >>= λ _. journal) j e in
+    let b = bind-given (check (content s)) (λ _. journal) j (a .1) in
+    sym (check-accepts desktopEntry (content s)) ∙ ap accepted (b .1)
+
+done : (s t : State) (q : Request) → request s q ≡ given t → Done s t q
+unfolding request
+done s t q h =
+    let f : List ℕ = content s in
+    let last : Edit → Answer State = λ e. need (recordFits (length (s .journal)) (s .standing) e) JournalFull >>= λ _. given (requested s f e) in
+    let rest : Edit → Answer State = λ e. need (fileFits (length (s .file)) (spliced e f)) NoRoom >>= λ _. last e in
+    let a = bind-given (opened s) (λ _. editOf f q >>= rest) t h in
+    let b = bind-given (editOf f q) rest t (a .2) in
+    let e : Edit = b .0 in
+    let c = need-given (fileFits (length (s .file)) (spliced e f)) NoRoom (λ _. last e) t (b .2) in
+    let d = need-given (recordFits (length (s .journal)) (s .standing) e) JournalFull (λ _. given (requested s f e)) t (c .1) in
+    record {
+      edit = e;
+      edits = b .1;
+      well = opened-well s (a .0) (a .1);
+      most = fits-most (length (s .file)) (spliced e f) (c .0);
+      left = ap content (sym (given-is (requested s f e) t (d .1))) ∙ buffer-content (s .file) (s .size) (spliced e f);
+    }
+
+-- ---- lookup by the lines of a file
+
+-- a row's value stands between its ends
+row-handed : (f : List ℕ) (t : Title) (r : Row) → findRow (readRows f) t ≡ some r → part (valueEnds r .from) (valueEnds r .to) f ≡ rawValue r
+unfolding valueEnds rawValue
+row-handed f t r z = value-stands f (found-row f t r z)
+
+-- lookup in a well-formed file hands back the value by its lines
+lookup-reads : (f group key : List ℕ) → wellFormed f ≡ true → (groupForm group && keyForm key) ≡ true
+    → handed f group key ≡ some-or (valueIn (Key group key) [] (linesOf f)) Missing
+lookup-reads f group key h k =
+    ap (then (λ e. part (e .from) (e .to) f)) (lookup-is f group key h k) ∙ rw (← value-file f (Key group key)) (by (findRow (readRows f) (Key group key)) refl)
+  where
+    by : (o : Option Row) → findRow (readRows f) (Key group key) ≡ o
+        → then (λ e. part (e .from) (e .to) f) (some-or o Missing >>= (λ r. given (valueEnds r))) ≡ some-or (Option·map rawValue o) Missing
+    by none z = refl
+    by (some r) z = ap given (row-handed f (Key group key) r z)
+
+-- with arguments of another form it is refused
+lookup-formless : (f group key : List ℕ) → wellFormed f ≡ true → (groupForm group && keyForm key) ≡ false → handed f group key ≡ refused BadArgument
+unfolding lookup
+lookup-formless f group key h k = rw (checks f h, k)
+
+-- ---- after an edit
+
+some-pick : (u : Bool) (v o : Option (List ℕ)) → some-or (pick u v o) Missing ≡ pick u (some-or v Missing) (some-or o Missing)
+some-pick true v o = refl
+some-pick false v o = refl
+
+module _ (f : List ℕ) (e : Edit) (t : Title) (v : Option (List ℕ)) (a : After desktopEntry e f t v) (h : wellFormed f ≡ true) (m : leb (length (spliced e f)) fileMost ≡ true) where
+  after-reads : (g k : List ℕ) → (groupForm g && keyForm k) ≡ true → handed (spliced e f) g k ≡ pick (sameTitle (Key g k) t) (some-or v Missing) (handed f g k)
+  after-reads g k c =
+      lookup-reads (spliced e f) g k (a .well m) c
+      ∙ ap (λ (o : Option (List ℕ)). some-or o Missing) (a .reads (Key g k))
+      ∙ some-pick (sameTitle (Key g k) t) v (valueIn (Key g k) [] (linesOf f))
+      ∙ ap (pick (sameTitle (Key g k) t) (some-or v Missing)) (sym (lookup-reads f g k h c))
+
+  after-others : (g k : List ℕ) → sameTitle (Key g k) t ≡ false → handed (spliced e f) g k ≡ handed f g k
+  after-others g k n =
+      by-test (groupForm g && keyForm k)
+      (λ c. after-reads g k c ∙ rw n)
+      (λ c. lookup-formless (spliced e f) g k (a .well m) c ∙ sym (lookup-formless f g k h c))
+
+-- what an accepted request leaves, with the value that its entry then has
+record Leaves (s t : State) (group key : List ℕ) (v : Option (List ℕ)) : Type 0 where
+  pub form : (groupForm group && keyForm key) ≡ true
+  pub well : wellFormed (content t) ≡ true
+  pub own : handed (content t) group key ≡ some-or v Missing
+  pub others : (g k : List ℕ) → sameTitle (Key g k) (Key group key) ≡ false → handed (content t) g k ≡ handed (content s) g k
+
+leaves : (s t : State) (q : Request) (group key : List ℕ) (v : Option (List ℕ)) (d : Done s t q) → (groupForm group && keyForm key) ≡ true
+    → After desktopEntry (d .edit) (content s) (Key group key) v → Leaves s t group key v
+leaves s t q group key v d c a =
+    record {
+      form = c;
+      well = rw (d .left) (a .well (d .most));
+      own = rw (d .left) (after-reads (content s) (d .edit) (Key group key) v a (d .well) (d .most) group key c ∙ rw (same-key group key));
+      others = λ g k n. rw (d .left) (after-others (content s) (d .edit) (Key group key) v a (d .well) (d .most) g k n);
+    }
+
+leaves-set : (s t : State) (group key text : List ℕ) → request s (Set group key text) ≡ given t → Leaves s t group key (some (rawText text))
+leaves-set s t group key text h =
+    let d = done s t (Set group key text) h in
+    let o = set-of (content s) group key text (d .edit) (d .edits) in
+    leaves s t (Set group key text) group key (some (rawText text)) d (o .form) (after-set desktopEntry (content s) group key text (d .edit) (d .well) o)
+
+leaves-remove : (s t : State) (group key : List ℕ) → request s (Remove group key) ≡ given t → Leaves s t group key none
+leaves-remove s t group key h =
+    let d = done s t (Remove group key) h in
+    let o = remove-of (content s) group key (d .edit) (d .edits) in
+    leaves s t (Remove group key) group key none d (o .form) (after-remove desktopEntry (content s) group key (d .edit) (d .well) o)
+
+-- ---- the laws
+
+pub edit-keeps-well-formed : EditKeepsWellFormed
+unfolding EditKeepsWellFormed
+edit-keeps-well-formed s t (Set group key text) h = leaves-set s t group key text h .well
+edit-keeps-well-formed s t (Remove group key) h = leaves-remove s t group key h .well
+
+pub others-read-as-before : OthersReadAsBefore
+unfolding OthersReadAsBefore
+others-read-as-before s t (Set group key text) g k h n = leaves-set s t group key text h .others g k n
+others-read-as-before s t (Remove group key) g k h n = leaves-remove s t group key h .others g k n
+
+pub set-is-read-back : SetIsReadBack
+unfolding SetIsReadBack
+set-is-read-back s t group key text h = rw (leaves-set s t group key text h .own) (read-back text)
+
+pub removed-is-missing : RemovedIsMissing
+unfolding RemovedIsMissing
+removed-is-missing s t group key h = by (lookup (content t) group key) (leaves-remove s t group key h .own)
+  where
+    by : (a : Answer Extent) → then (λ e. part (e .from) (e .to) (content t)) a ≡ refused Missing → a ≡ refused Missing
+    by (given e) i = no (cc)
+    by (refused f) i = ap refused (cc)
+
+pub turned-round : TurnedRound
+unfolding TurnedRound
+turned-round file q e h = edit-undone file q e h

@@ -1,0 +1,78 @@
+-- The book of demand 3: fed the starting file, both buffers' sizes and the calls, it keeps two lists of requests (01, "Edits and the journal").
+-- Assumes nothing.
+use Prim.Native.Nat.{ℕ, _+_}
+use mathlib.Core.Path.{_≡_}
+use mathlib.Core.List.{List, [], _∷_}
+use Rattle.fault.specs.declared.Fault.{Fault}
+use Rattle.fault.specs.declared.Fault.the-variants.{NoRoom, NothingLeft, JournalFull}
+use Rattle.fault.specs.Table.{placeOf}
+use Rattle.fault.specs.Answer.{Answer, given, refused, _>>=_, need, then}
+use Rattle.splice.specs.Edit.{spliced}
+use Rattle.change.specs.Change.{Request, editOf}
+use Rattle.journal.specs.Journal.{editLength}
+use Rattle.edit.specs.Calls.{fileFits, recordFits, atExit}
+
+-- the calls: a set or remove, an undo, a redo
+pub data Call : Type 0 where
+  Do : Request → Call
+  Undo : Call
+  Redo : Call
+
+-- the book: the starting file, both buffers' sizes, and two lists of requests: standing, the last first, and waiting, the first first
+pub record Book : Type 0 where
+  pub start : List ℕ
+  pub fileRoom : ℕ
+  pub journalRoom : ℕ
+  pub standing : List Request
+  pub waiting : List Request
+
+-- the starting bytes after the standing requests, in order
+unfoldable pub fileAfter : List ℕ → List Request → List ℕ
+fileAfter start [] = start
+fileAfter start (q ∷ qs) = let file : List ℕ = fileAfter start qs in atExit file (then (λ e. spliced e file) (editOf file q))
+
+-- the sum of those requests' record lengths
+unfoldable pub recordsAfter : List ℕ → List Request → ℕ
+recordsAfter start [] = 0
+recordsAfter start (q ∷ qs) = recordsAfter start qs + atExit 0 (then editLength (editOf (fileAfter start qs) q))
+
+-- the book's file
+abbrev pub bookFile : Book → List ℕ
+bookFile b = fileAfter (b .start) (b .standing)
+
+-- the book's standing number
+abbrev pub bookStanding : Book → ℕ
+bookStanding b = recordsAfter (b .start) (b .standing)
+
+-- the book with other lists
+abbrev pub withLists : Book → List Request → List Request → Book
+withLists b standing waiting =
+    record { start = b .start; fileRoom = b .fileRoom; journalRoom = b .journalRoom; standing = standing; waiting = waiting }
+
+-- set, remove: the first of 7, 10, 8, 6, 17, 11, 13 that applies refuses; else the request becomes the last standing, and none waits
+unfoldable pub bookRequest : Book → Request → Answer Book
+bookRequest b q = do
+  e ← editOf (bookFile b) q
+  _ ← need (fileFits (b .fileRoom) (spliced e (bookFile b))) NoRoom
+  _ ← need (recordFits (b .journalRoom) (bookStanding b) e) JournalFull
+  given (withLists b (q ∷ b .standing) [])
+
+-- undo: 12 if none stands; else the last standing becomes the first waiting
+abbrev pub bookUndo : Book → List Request → Answer Book
+bookUndo b [] = refused NothingLeft
+bookUndo b (q ∷ qs) = given (withLists b qs (q ∷ b .waiting))
+
+-- redo: 12 if none waits; else the first waiting becomes the last standing
+abbrev pub bookRedo : Book → List Request → Answer Book
+bookRedo b [] = refused NothingLeft
+bookRedo b (q ∷ qs) = given (withLists b (q ∷ b .standing) qs)
+
+-- a call to the book
+abbrev pub bookCall : Book → Call → Answer Book
+bookCall b (Do q) = bookRequest b q
+bookCall b Undo = bookUndo b (b .standing)
+bookCall b Redo = bookRedo b (b .waiting)
+
+-- a refusal has place 0
+unfoldable pub BookRefusesAtZero : Type 0
+BookRefusesAtZero = (b : Book) (c : Call) (f : Fault) → bookCall b c ≡ refused f → placeOf f ≡ 0

@@ -1,0 +1,71 @@
+-- Demand 3: over any list of calls the lent buffers tell what the book tells, and hold its file. Assumes nothing.
+use mathlib.Core.Path.{_≡_}
+use Prim.Native.Nat.{ℕ}
+use mathlib.Core.Bool.{true}
+use mathlib.Core.List.{List, [], _∷_, _++_}
+use lib.ListN.{length}
+use Rattle.fault.specs.Table.{numberOf, placeOf}
+use Rattle.fault.specs.Answer.{Answer, given, refused}
+use Rattle.wellformed.specs.WellFormed.{wellFormed}
+use Rattle.edit.specs.Calls.{State, content, request, undo, redo, atExit}
+use Rattle.demands.specs.Book.{Call, Do, Undo, Redo, Book, bookFile, bookStanding, bookCall}
+
+-- a call on the buffers
+abbrev pub stateCall : State → Call → Answer State
+stateCall s (Do q) = request s q
+stateCall s Undo = undo s
+stateCall s Redo = redo s
+
+-- what the caller is told: accepted, or a refusal's number and place
+pub data Told : Type 0 where
+  Accepted : Told
+  Refused : ℕ → ℕ → Told
+
+-- what an answer tells
+abbrev pub told : {A : Type 0} → Answer A → Told
+told (given a) = Accepted
+told (refused f) = Refused (numberOf f) (placeOf f)
+
+-- what is told over a list of calls, each on what the one before left
+unfoldable pub toldOver : {A : Type 0} → (A → Call → Answer A) → A → List Call → List Told
+toldOver call a [] = []
+toldOver call a (c ∷ cs) = told (call a c) ∷ toldOver call (atExit a (call a c)) cs
+
+-- what the last of them left
+unfoldable pub leftBy : {A : Type 0} → (A → Call → Answer A) → A → List Call → A
+leftBy call a [] = a
+leftBy call a (c ∷ cs) = leftBy call (atExit a (call a c)) cs
+
+-- the start: a file in its buffer, and an empty journal in its own
+abbrev pub startState : List ℕ → List ℕ → List ℕ → State
+startState start rest journal = record { file = start ++ rest; size = length start; journal = journal; used = 0; standing = 0 }
+
+-- the book of that start: the starting file and both buffers' sizes
+abbrev pub startBook : List ℕ → ℕ → ℕ → Book
+startBook start fileRoom journalRoom = record { start = start; fileRoom = fileRoom; journalRoom = journalRoom; standing = []; waiting = [] }
+
+-- Demand 3: from any well-formed file and an empty journal, over any list of calls, the buffers tell what the book tells, the file's bytes
+-- are the book's file, and the standing number is the book's.
+unfoldable pub Demand3 : Type 0
+Demand3 = (start rest journal : List ℕ) (calls : List Call) → wellFormed start ≡ true →
+    let s : State = startState start rest journal in
+    let b : Book = startBook start (length (start ++ rest)) (length journal) in
+    (toldOver stateCall s calls ≡ toldOver bookCall b calls)
+    × (content (leftBy stateCall s calls) ≡ bookFile (leftBy bookCall b calls))
+    × (leftBy stateCall s calls .standing ≡ bookStanding (leftBy bookCall b calls))
+
+-- Calls in turn on the same buffers: what is lent at first, the calls, what each told, and what is lent at last. A step asks what the contracts
+-- of the four functions promise: what the call tells, and what is lent as it returns.
+pub data Chain : State → List Call → List Told → State → Type 0 where
+  no-call : {s : State} → Chain s [] [] s
+  one-call : {s t u : State} {c : Call} {cs : List Call} {x : Told} {xs : List Told}
+      → x ≡ told (stateCall s c) → t ≡ atExit s (stateCall s c) → Chain t cs xs u → Chain s (c ∷ cs) (x ∷ xs) u
+
+-- the same of every chain of calls that meet their contracts
+unfoldable pub Demand3OfChains : Type 0
+Demand3OfChains = (start rest journal : List ℕ) (calls : List Call) (tolds : List Told) (s : State) → wellFormed start ≡ true
+    → Chain (startState start rest journal) calls tolds s →
+    let b : Book = startBook start (length (start ++ rest)) (length journal) in
+    (tolds ≡ toldOver bookCall b calls)
+    × (content s ≡ bookFile (leftBy bookCall b calls))
+    × (s .standing ≡ bookStanding (leftBy bookCall b calls))
