@@ -345,9 +345,9 @@ follows (one-call {c = c} e f h) =
     let w = follows h in
     record { told-is = rw (e, ← f, w .told-is); left-is = rw (← f) (w .left-is) }
 
-pub demand3-of-chains : Demand3OfChains
+pub demand3-chain : Demand3OfChains
 unfolding Demand3OfChains Demand3
-demand3-of-chains start rest journal calls tolds s h k =
+demand3-chain start rest journal calls tolds s h k =
     let w = follows k in
     let d = demand3 start rest journal calls h in
     (w .told-is ∙ d .0, ap content (w .left-is) ∙ d .1, ap (λ (t : State). t .standing) (w .left-is) ∙ d .2)

@@ -20,9 +20,9 @@ abbrev pub handed : List ℕ → List ℕ → List ℕ → Answer (List ℕ)
 handed file group key = then (λ e. part (e .from) (e .to) file) (lookup file group key)
 
 -- the entry that a request is about: its group and its key with the whole postfix
-abbrev pub entryOf : Request → Title
-entryOf (Set group key text) = Key group key
-entryOf (Remove group key) = Key group key
+abbrev pub askedEntry : Request → Title
+askedEntry (Set group key text) = Key group key
+askedEntry (Remove group key) = Key group key
 
 -- a set or remove of a well-formed file leaves a well-formed file
 unfoldable pub EditKeepsWellFormed : Type 0
@@ -30,7 +30,7 @@ EditKeepsWellFormed = (s t : State) (q : Request) → request s q ≡ given t �
 
 -- every other group, key and postfix reads as it did: the same bytes, or the same refusal
 unfoldable pub OthersReadAsBefore : Type 0
-OthersReadAsBefore = (s t : State) (q : Request) (group key : List ℕ) → request s q ≡ given t → sameTitle (Key group key) (entryOf q) ≡ false
+OthersReadAsBefore = (s t : State) (q : Request) (group key : List ℕ) → request s q ≡ given t → sameTitle (Key group key) (askedEntry q) ≡ false
     → handed (content t) group key ≡ handed (content s) group key
 
 -- the text set is the text read back from the same entry
