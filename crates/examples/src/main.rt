@@ -1,0 +1,21 @@
+// Runs the examples of 01, and more at exact places, on the calls, and reports each on a line of its own.
+mod report; // report.rt: the words of the report
+mod files; // files.rt: the check and completeness
+mod values; // values.rt: lookup and the choice of language
+mod texts; // texts.rt: text and value lists
+
+fn main() {
+    // File T of 01.
+    let t = b"[Desktop Entry]\nType=Application\nName=Lesen\nName[fr]=Lire\nExec=view %F\n";
+    files::checks(t);
+    files::refused_checks();
+    files::completeness(t);
+    files::refused_completeness();
+    values::lookups(t);
+    values::refused_lookups(t);
+    values::choices(t);
+    values::refused_choices(t);
+    texts::texts_read();
+    texts::texts_written();
+    texts::lists_read();
+}

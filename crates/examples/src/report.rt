@@ -1,0 +1,122 @@
+// The words of the report, on standard output.
+use entry::Ends;
+use fault::Fault;
+use libc::STDOUT_FILENO;
+use text::Written;
+use wellformed::Checked;
+ghost use Prim.Native.Nat.{_<_};
+
+pub fn say(words: &[u8]) {
+    io::write_all(STDOUT_FILENO, words);
+}
+
+pub fn say_number(n: usize) {
+    io::print_decimal(STDOUT_FILENO, n as u64);
+}
+
+fn digit(d: u8) -> u8
+    requires { ⌜ d < 16 ⌝ }
+{
+    if d < 10 { b'0' + d } else { b'A' - 10 + d }
+}
+
+// A byte in two hexadecimal digits.
+fn say_hex(b: u8) {
+    say(&[digit(b / 16), digit(b % 16)]);
+}
+
+// A byte between quotation marks: LF as `|`, one outside 0x20 to 0x7E by its digits in `<` and `>`.
+fn quote_byte(b: u8) {
+    if b == b'\n' {
+        say(b"|");
+    } else if b < 0x20 || 0x7e < b {
+        say(b"<");
+        say_hex(b);
+        say(b">");
+    } else {
+        say(&[b]);
+    }
+}
+
+fn quote_bytes(s: &[u8]) {
+    for i in 0..s.len() {
+        quote_byte(s[i]);
+    }
+}
+
+pub fn quote(s: &[u8]) {
+    say(b"\"");
+    quote_bytes(s);
+    say(b"\"");
+}
+
+fn spaced_hex(b: u8) {
+    say(b" ");
+    say_hex(b);
+}
+
+fn spaced_bytes(s: &[u8]) {
+    for i in 0..s.len() {
+        spaced_hex(s[i]);
+    }
+}
+
+fn say_refused(f: Fault) {
+    let t = fault::tell(f);
+    say(b": refused ");
+    say_number(t.number as usize);
+    say(b" at ");
+    say_number(t.place);
+}
+
+// The answer of the check or of completeness.
+pub fn tell_checked(c: Checked) {
+    match c {
+        Checked::Sound => say(b": accepted"),
+        Checked::Refused(f) => say_refused(f),
+    }
+    say(b"\n");
+}
+
+// The answer of a call that finds a value: its two ends, and the part of the file.
+pub fn tell_value(e: Ends, part: &[u8]) {
+    match e {
+        Ends::At { from, to } => {
+            say(b": ");
+            say_number(from);
+            say(b" to ");
+            say_number(to);
+        }
+        Ends::Refused(f) => say_refused(f),
+    }
+    say(b", ");
+    quote(part);
+    say(b"\n");
+}
+
+fn say_written(w: Written) {
+    match w {
+        Written::Bytes(n) => {
+            say(b": ");
+            say_number(n);
+            say(b" bytes");
+        }
+        Written::Refused(f) => say_refused(f),
+    }
+}
+
+// The answer of a call that writes text, and the whole output.
+pub fn tell_text(w: Written, out: &[u8]) {
+    say_written(w);
+    say(b", ");
+    quote(out);
+    say(b"\n");
+}
+
+// The answer of a call that writes records, and the whole output.
+pub fn tell_records(w: Written, out: &[u8]) {
+    say_written(w);
+    say(b",");
+    spaced_bytes(out);
+    say(b"\n");
+}
