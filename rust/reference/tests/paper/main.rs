@@ -1,6 +1,7 @@
-//! Tests of the reference: paper 01's examples, the readings, and seeded random calls.
+//! Tests of the reference: paper 01's examples, the readings, seeded random calls, and the report of the program of examples.
 
 mod common;
 mod examples;
 mod random;
 mod readings;
+mod report;

@@ -1,0 +1,193 @@
+//! The report of the program `crates/examples`, made again from the reference's answers. The questions are written here anew.
+
+use crate::common::{with_header, T};
+use reference::{check, choose, complete, lookup, read_list, read_text, write_text, Refusal};
+
+/// A call with an output.
+type Output = fn(&[u8], &mut [u8]) -> Result<usize, Refusal>;
+
+/// The words of an answer or of its refusal.
+fn told<A>(answer: Result<A, Refusal>, words: impl Fn(A) -> String) -> String {
+    match answer {
+        Ok(answer) => words(answer),
+        Err(refusal) => format!("refused {} at {}", refusal.number, refusal.place),
+    }
+}
+
+/// Bytes between quotation marks: LF as `|`, one outside 0x20 to 0x7E by its digits.
+fn quote(bytes: &[u8]) -> String {
+    let quoted = bytes.iter().map(|byte| match byte {
+        b'\n' => "|".to_string(),
+        0x20..=0x7E => char::from(*byte).to_string(),
+        _ => format!("<{byte:02X}>"),
+    });
+    format!("\"{}\"", quoted.collect::<String>())
+}
+
+/// Bytes by their digits.
+fn digits(bytes: &[u8]) -> String {
+    let digits = bytes.iter().map(|byte| format!("{byte:02X}"));
+    digits.collect::<Vec<_>>().join(" ")
+}
+
+fn checked(call: &str, file: &str, answer: Result<(), Refusal>) -> String {
+    format!("{call} {file}: {}", told(answer, |()| "accepted".into()))
+}
+
+fn checks(file: &[u8]) -> String {
+    checked("check", &quote(file), check(file))
+}
+
+/// File T and a comment that fills it up to a length.
+fn checks_length(length: usize) -> String {
+    let mut file = T.to_vec();
+    file.resize(length, b'#');
+    let words = format!("T and # up to {length} bytes");
+    checked("check", &words, check(&file))
+}
+
+fn completes(file: &[u8]) -> String {
+    checked("complete", &quote(file), complete(file))
+}
+
+/// A value's two ends and the part of the file, which is empty where refused.
+fn value(file: &[u8], answer: Result<(usize, usize), Refusal>) -> String {
+    let part = answer.map_or(&[][..], |(from, to)| &file[from..to]);
+    let ends = told(answer, |(from, to)| format!("{from} to {to}"));
+    format!("{ends}, {}", quote(part))
+}
+
+/// A key in a group of a file.
+fn place(file: &[u8], group: &[u8], key: &[u8]) -> String {
+    format!("{} in {} of {}", quote(key), quote(group), quote(file))
+}
+
+fn looks_up(file: &[u8], group: &[u8], key: &[u8]) -> String {
+    let value = value(file, lookup(file, group, key));
+    format!("lookup {}: {value}", place(file, group, key))
+}
+
+fn chooses(file: &[u8], key: &[u8], locale: &[u8]) -> String {
+    let group = b"Desktop Entry";
+    let value = value(file, choose(file, group, key, locale));
+    let place = place(file, group, key);
+    format!("choose {place} for {}: {value}", quote(locale))
+}
+
+/// A call whose output holds dots before it.
+fn writes(
+    name: &str,
+    call: Output,
+    show: fn(&[u8]) -> String,
+    input: &[u8],
+    room: usize,
+) -> String {
+    let mut out = vec![b'.'; room];
+    let answer = told(call(input, &mut out), |n| format!("{n} bytes"));
+    let input = quote(input);
+    format!("{name} {input} into {room} bytes: {answer}, {}", show(&out))
+}
+
+fn reads_text(raw: &[u8], room: usize) -> String {
+    writes("read_text", read_text, quote, raw, room)
+}
+
+fn writes_text(text: &[u8], room: usize) -> String {
+    writes("write_text", write_text, quote, text, room)
+}
+
+fn reads_list(raw: &[u8], room: usize) -> String {
+    writes("read_list", read_list, digits, raw, room)
+}
+
+fn files() -> Vec<String> {
+    vec![
+        checks(b""),
+        checks(T),
+        checks_length(32_768),
+        checks_length(32_769),
+        checks(&with_header(b"Name[fr]=a\nName=b\n")),
+        checks(b"# only\n\t\n"),
+        checks(&with_header(b"Name\n")),
+        checks(b"[Desktop Entry]\r\n"),
+        checks(b"Name=x\n[Desktop Entry]\n"),
+        checks(b"# first\n[Other]\n"),
+        checks(&with_header(b"[A]\n[B]\n[A]\n")),
+        checks(&with_header(b"Name=a\nName=b\n")),
+        checks(&with_header(b"Name[fr]=a\nName[de]=b\n")),
+        checks(&with_header(b"Name[fr]=a\n!\n")),
+        completes(T),
+        completes(&with_header(
+            b"Type=Application\nName=N\nDBusActivatable=true\n",
+        )),
+        completes(b""),
+        completes(&with_header(b"Name=N\n")),
+        completes(&with_header(b"Name=N\nType=Tool\n")),
+        completes(&with_header(b"Type=Directory\n")),
+        completes(&with_header(b"Type=Application\nName=N\n")),
+        completes(&with_header(b"Type=Link\nName=N\n")),
+        completes(&with_header(b"Type=Directory\nName=N\nHidden=no\n")),
+    ]
+}
+
+fn values() -> Vec<String> {
+    let entry = b"Desktop Entry";
+    let serbian = with_header(b"Name=Foo\nName[sr_YU]=a\nName[sr@Latn]=b\nName[sr]=c\n");
+    vec![
+        looks_up(&with_header(b"Name = X\n"), entry, b"Name"),
+        looks_up(&with_header(b"Name=\n"), entry, b"Name"),
+        looks_up(&with_header(b"Name=a \n"), entry, b"Name"),
+        looks_up(T, entry, b"Name[fr]"),
+        looks_up(b"", b"[", b"Name"),
+        looks_up(T, b"[", b"Name"),
+        looks_up(T, entry, b"Name["),
+        looks_up(T, b"Other", b"Name"),
+        looks_up(T, entry, b"Icon"),
+        chooses(&serbian, b"Name", b"sr_YU@Latn"),
+        chooses(T, b"Name", b"fr_CA.UTF-8"),
+        chooses(T, b"Name", b"de"),
+        chooses(T, b"Name", b"C"),
+        chooses(T, b"Name", b""),
+        chooses(b"", b"Name", b"_"),
+        chooses(T, b"Name[fr]", b"fr"),
+        chooses(T, b"Name", b"_"),
+        chooses(T, b"Icon", b"fr"),
+    ]
+}
+
+fn texts() -> Vec<String> {
+    vec![
+        reads_text(br"a\q", 4),
+        reads_text(br"a\", 4),
+        reads_text(br"a\;b", 4),
+        reads_text(br"\sx", 4),
+        reads_text(br"\sx", 2),
+        reads_text(br"\sx", 1),
+        reads_text(br"a\tb\nc\rd\\", 8),
+        writes_text(b" x", 4),
+        writes_text(b" x", 3),
+        writes_text(b" x", 2),
+        writes_text(b"  ", 4),
+        writes_text(b"a\tb\nc\rd\\", 12),
+        writes_text("ä".as_bytes(), 4),
+        writes_text(b"\xC3", 4),
+        writes_text(b"a\x01", 4),
+        reads_list(br"a\;b;;", 16),
+        reads_list(b";", 6),
+        reads_list(b"", 6),
+        reads_list(b"a;b", 14),
+        reads_list(b"a;b", 13),
+        reads_list(br"a;b\q", 16),
+    ]
+}
+
+#[test]
+fn the_program_reports_the_same() {
+    let path = concat!(env!("CARGO_MANIFEST_DIR"), "/../../crates/examples/stdout");
+    let report = std::fs::read_to_string(path).unwrap();
+    let lines = [files(), values(), texts()].concat();
+    for (line, expected) in report.lines().zip(&lines) {
+        assert_eq!(line, expected);
+    }
+    assert_eq!(report, lines.join("\n") + "\n");
+}
