@@ -14,6 +14,7 @@ use std::os::unix::ffi::OsStrExt;
 use std::process::ExitCode;
 
 use arguments::{Command, Wanted};
+use kveldrim::Refusal;
 use report::Trouble;
 
 const HELP: &str = "\
@@ -44,22 +45,22 @@ fn main() -> ExitCode {
     match command {
         Command::Help => write(HELP.as_bytes()),
         Command::Version => write(concat!("kveldrim ", env!("CARGO_PKG_VERSION"), "\n").as_bytes()),
-        Command::Check(files) => each(&files, |file, bytes| {
-            kveldrim::check(bytes).map_err(|refusal| Trouble::of_file(file, bytes, refusal))
-        }),
-        Command::Complete(files) => each(&files, |file, bytes| {
-            kveldrim::complete(bytes).map_err(|refusal| Trouble::of_file(file, bytes, refusal))
-        }),
-        Command::Get(wanted) => get(&wanted),
-        Command::List(wanted) => list(&wanted),
+        Command::Check(files) => each(&files, kveldrim::check),
+        Command::Complete(files) => each(&files, kveldrim::complete),
+        Command::Get(wanted) if wanted.raw => value(&wanted, |raw| Ok(vec![raw.to_vec()])),
+        Command::Get(wanted) => value(&wanted, |raw| Ok(vec![kveldrim::read_text_vec(raw)?])),
+        Command::List(wanted) => value(&wanted, kveldrim::read_list_vec),
     }
 }
 
 /// Asks the same of every file; the status is that of the worst.
-fn each(files: &[OsString], ask: impl Fn(&OsStr, &[u8]) -> Result<(), Trouble>) -> ExitCode {
+fn each(files: &[OsString], ask: fn(&[u8]) -> Result<(), Refusal>) -> ExitCode {
     let mut status = 0;
     for file in files {
-        if let Err(trouble) = read(file).and_then(|bytes| ask(file, &bytes)) {
+        let answer = read(file).and_then(|bytes| {
+            ask(&bytes).map_err(|refusal| Trouble::of_file(file, &bytes, refusal))
+        });
+        if let Err(trouble) = answer {
             status = status.max(trouble.status());
             trouble.tell();
         }
@@ -67,32 +68,20 @@ fn each(files: &[OsString], ask: impl Fn(&OsStr, &[u8]) -> Result<(), Trouble>) 
     ExitCode::from(status)
 }
 
-fn get(wanted: &Wanted) -> ExitCode {
+/// Reads the raw value that is wanted, and writes each part of it on a line of its own.
+fn value(wanted: &Wanted, parts: impl Fn(&[u8]) -> Result<Vec<Vec<u8>>, Refusal>) -> ExitCode {
     let answer = read(&wanted.file).and_then(|bytes| {
         let ends = find(wanted, &bytes)?;
-        let raw = &bytes[ends.clone()];
-        if wanted.raw {
-            return Ok([raw, b"\n"].concat());
+        parts(&bytes[ends.clone()])
+            .map_err(|refusal| Trouble::of_value(wanted, &bytes, ends.start, refusal))
+    });
+    match answer {
+        Ok(parts) => {
+            let lines = parts.into_iter().flat_map(|part| [part, b"\n".to_vec()]);
+            write(&lines.collect::<Vec<_>>().concat())
         }
-        let mut text = kveldrim::read_text_vec(raw)
-            .map_err(|refusal| Trouble::of_value(wanted, &bytes, ends.start, refusal))?;
-        text.push(b'\n');
-        Ok(text)
-    });
-    finish(answer)
-}
-
-fn list(wanted: &Wanted) -> ExitCode {
-    let answer = read(&wanted.file).and_then(|bytes| {
-        let ends = find(wanted, &bytes)?;
-        let elements = kveldrim::read_list_vec(&bytes[ends.clone()])
-            .map_err(|refusal| Trouble::of_value(wanted, &bytes, ends.start, refusal))?;
-        let lines = elements
-            .into_iter()
-            .flat_map(|element| [element, b"\n".to_vec()]);
-        Ok(lines.collect::<Vec<_>>().concat())
-    });
-    finish(answer)
+        Err(trouble) => trouble.tell(),
+    }
 }
 
 /// Where the raw value stands that is wanted: by its locale, or just by its key.
@@ -127,13 +116,6 @@ fn read(file: &OsStr) -> Result<Vec<u8>, Trouble> {
         })
         .map_err(|error| Trouble::unreadable(file, &error))?;
     Ok(bytes)
-}
-
-fn finish(answer: Result<Vec<u8>, Trouble>) -> ExitCode {
-    match answer {
-        Ok(bytes) => write(&bytes),
-        Err(trouble) => trouble.tell(),
-    }
 }
 
 fn write(bytes: &[u8]) -> ExitCode {

@@ -216,27 +216,28 @@ fn get_tells_refusals() {
         .with(b"t", T)
         .with(b"escape", b"[Desktop Entry]\nA=1\nName =  ab\\q\n")
         .with(b"bad", b"[Desktop Entry]\n\x80\n");
-    folder
-        .run(&[b"get", b"t", b"Icon"])
-        .tells(1, &["t: there is no key Icon in a group Desktop Entry"]);
-    folder
-        .run(&[b"get", b"t", b"Name", b"--group", b"X"])
-        .tells(1, &["t: there is no key Name in a group X"]);
-    folder
-        .run(&[b"get", b"t", b"Na me"])
-        .tells(1, &["t: the group, key or locale"]);
-    folder
-        .run(&[b"get", b"t", b"Name[fr]", b"--locale", b"fr"])
-        .tells(1, &["t: the group, key or locale"]);
-    folder
-        .run(&[b"get", b"escape", b"Name"])
-        .tells(1, &["escape:3:11: unknown or unfinished escape"]);
+    let refused = |words: &[&[u8]], told: &str| folder.run(words).tells(1, &[told]);
+    refused(
+        &[b"get", b"t", b"Icon"],
+        "t: there is no key Icon in a group Desktop Entry",
+    );
+    refused(
+        &[b"get", b"t", b"Name", b"--group", b"X"],
+        "t: there is no key Name in a group X",
+    );
+    refused(&[b"get", b"t", b"Na me"], "t: the group, key or locale");
+    refused(
+        &[b"get", b"t", b"Name[fr]", b"--locale", b"fr"],
+        "t: the group, key or locale",
+    );
+    refused(
+        &[b"get", b"escape", b"Name"],
+        "escape:3:11: unknown or unfinished escape",
+    );
+    refused(&[b"get", b"bad", b"Name"], "bad:2: ");
     folder
         .run(&[b"get", b"escape", b"Name", b"--raw"])
         .writes(b"ab\\q\n");
-    folder
-        .run(&[b"get", b"bad", b"Name"])
-        .tells(1, &["bad:2: "]);
 }
 
 #[test]

@@ -149,100 +149,98 @@ impl Asker {
     }
 
     pub fn check(&mut self, file: &[u8]) -> Result<(), String> {
-        let expected = reference::check(file).map_err(refusal);
-        self.count("check", &expected);
-        let outcome = self
-            .file_call(file, ffi::kveldrim_check, expected)
-            .and_then(|()| bound(kveldrim::check(file), expected));
-        named("check", &[], outcome)
+        self.file_call(
+            "check",
+            file,
+            ffi::kveldrim_check,
+            reference::check(file),
+            kveldrim::check(file),
+        )
     }
 
     pub fn complete(&mut self, file: &[u8]) -> Result<(), String> {
-        let expected = reference::complete(file).map_err(refusal);
-        self.count("complete", &expected);
-        let outcome = self
-            .file_call(file, ffi::kveldrim_complete, expected)
-            .and_then(|()| bound(kveldrim::complete(file), expected));
-        named("complete", &[], outcome)
+        self.file_call(
+            "complete",
+            file,
+            ffi::kveldrim_complete,
+            reference::complete(file),
+            kveldrim::complete(file),
+        )
     }
 
-    /// A call that takes just a file.
+    /// A call that takes just a file, with the answers of the reference and of the bindings.
     fn file_call(
         &mut self,
+        name: &'static str,
         file: &[u8],
-        call: unsafe extern "C" fn(*const u8, usize, *mut u64) -> u32,
-        expected: Result<(), (u32, u64)>,
+        call: ffi::FileCall,
+        expected: Result<(), reference::Refusal>,
+        answer: Result<(), kveldrim::Refusal>,
     ) -> Result<(), String> {
+        let expected = expected.map_err(refusal);
+        self.count(name, &expected);
         let lent = self.lend(file);
         let mut numbers = Numbers::new();
         let (place, _, _) = numbers.pointers();
         // SAFETY: the bytes and the number outlive the call.
         let result = unsafe { call(lent.pointer(), lent.len(), place) };
-        numbers.tell(result, &expected.map(|()| Vec::new()))?;
-        lent.holds(file)
+        let outcome = numbers
+            .tell(result, &expected.map(|()| Vec::new()))
+            .and_then(|()| lent.holds(file))
+            .and_then(|()| bound(answer, expected));
+        named(name, &[], outcome)
     }
 
     pub fn lookup(&mut self, file: &[u8], ask: &Ask) -> Result<(), String> {
         let (group, key) = (&ask.group[..], &ask.key[..]);
-        let expected = reference::lookup(file, group, key).map_err(refusal);
-        self.count("lookup", &expected);
-        let lent = [file, group, key].map(|bytes| self.lend(bytes));
-        let mut numbers = Numbers::new();
-        let (place, from, to) = numbers.pointers();
         // SAFETY: the bytes and the numbers outlive the call.
-        let result = unsafe {
-            ffi::kveldrim_lookup(
-                lent[0].pointer(),
-                lent[0].len(),
-                lent[1].pointer(),
-                lent[1].len(),
-                lent[2].pointer(),
-                lent[2].len(),
-                place,
-                from,
-                to,
-            )
-        };
-        let outcome = numbers
-            .tell(result, &ends(expected))
-            .and_then(|()| lent[0].holds(file))
-            .and_then(|()| lent[1].holds(group))
-            .and_then(|()| lent[2].holds(key))
-            .and_then(|()| part(file, kveldrim::lookup(file, group, key), expected));
-        named("lookup", &[group, key], outcome)
+        self.value_call(
+            "lookup",
+            [file, group, key],
+            |[(file, f), (group, g), (key, k)], (place, from, to)| unsafe {
+                ffi::kveldrim_lookup(file, f, group, g, key, k, place, from, to)
+            },
+            reference::lookup(file, group, key),
+            kveldrim::lookup(file, group, key),
+        )
     }
 
     pub fn choose(&mut self, file: &[u8], ask: &Ask) -> Result<(), String> {
         let (group, key, locale) = (&ask.group[..], &ask.plain[..], &ask.locale[..]);
-        let expected = reference::choose(file, group, key, locale).map_err(refusal);
-        self.count("choose", &expected);
-        let lent = [file, group, key, locale].map(|bytes| self.lend(bytes));
-        let mut numbers = Numbers::new();
-        let (place, from, to) = numbers.pointers();
         // SAFETY: the bytes and the numbers outlive the call.
-        let result = unsafe {
-            ffi::kveldrim_choose(
-                lent[0].pointer(),
-                lent[0].len(),
-                lent[1].pointer(),
-                lent[1].len(),
-                lent[2].pointer(),
-                lent[2].len(),
-                lent[3].pointer(),
-                lent[3].len(),
-                place,
-                from,
-                to,
-            )
-        };
+        self.value_call(
+            "choose",
+            [file, group, key, locale],
+            |[(file, f), (group, g), (key, k), (locale, l)], (place, from, to)| unsafe {
+                ffi::kveldrim_choose(file, f, group, g, key, k, locale, l, place, from, to)
+            },
+            reference::choose(file, group, key, locale),
+            kveldrim::choose(file, group, key, locale),
+        )
+    }
+
+    /// A call that finds a value in a file, the first of its arguments. It gets each argument by pointer and length, and
+    /// pointers to its place and the two ends. The answers are those of the reference and of the bindings.
+    fn value_call<const N: usize>(
+        &mut self,
+        name: &'static str,
+        arguments: [&[u8]; N],
+        call: impl Fn([(*const u8, usize); N], (*mut u64, *mut u64, *mut u64)) -> u32,
+        expected: Result<(usize, usize), reference::Refusal>,
+        answer: Result<&[u8], kveldrim::Refusal>,
+    ) -> Result<(), String> {
+        let expected = expected.map_err(refusal);
+        self.count(name, &expected);
+        let lent = arguments.map(|bytes| self.lend(bytes));
+        let mut numbers = Numbers::new();
+        let slices = lent.each_ref().map(|lent| (lent.pointer(), lent.len()));
+        let result = call(slices, numbers.pointers());
+        let mut kept = lent.iter().zip(arguments);
         let outcome = numbers
             .tell(result, &ends(expected))
-            .and_then(|()| lent[0].holds(file))
-            .and_then(|()| lent[1].holds(group))
-            .and_then(|()| lent[2].holds(key))
-            .and_then(|()| lent[3].holds(locale))
-            .and_then(|()| part(file, kveldrim::choose(file, group, key, locale), expected));
-        named("choose", &[group, key, locale], outcome)
+            .and_then(|()| kept.try_for_each(|(lent, bytes)| lent.holds(bytes)))
+            .and_then(|()| part(arguments[0], answer, expected));
+        named(name, &arguments[1..], outcome)
     }
 
     pub fn read_text(&mut self, raw: &[u8]) -> Result<(), String> {

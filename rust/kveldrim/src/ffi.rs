@@ -3,6 +3,9 @@
 //! Every call: the result is the refusal's number, 0 if accepted; `place` is always written, each other number only if
 //! accepted; no lent byte changes on a refusal. An empty slice may have any pointer.
 
+/// A call that asks of a file: the file, its length, place.
+pub type FileCall = unsafe extern "C" fn(*const u8, usize, *mut u64) -> u32;
+
 /// A call that reads bytes and writes others: input, its length, output, its length, place, bytes written.
 pub type OutputCall =
     unsafe extern "C" fn(*const u8, usize, *mut u8, usize, *mut u64, *mut u64) -> u32;
@@ -37,31 +40,22 @@ extern "C" {
         from: *mut u64,
         to: *mut u64,
     ) -> u32;
-
-    pub fn kveldrim_read_text(
-        raw: *const u8,
-        raw_len: usize,
-        out: *mut u8,
-        out_len: usize,
-        place: *mut u64,
-        written: *mut u64,
-    ) -> u32;
-
-    pub fn kveldrim_write_text(
-        text: *const u8,
-        text_len: usize,
-        out: *mut u8,
-        out_len: usize,
-        place: *mut u64,
-        written: *mut u64,
-    ) -> u32;
-
-    pub fn kveldrim_read_list(
-        raw: *const u8,
-        raw_len: usize,
-        out: *mut u8,
-        out_len: usize,
-        place: *mut u64,
-        written: *mut u64,
-    ) -> u32;
 }
+
+/// Declares calls of the type [`OutputCall`].
+macro_rules! output_calls {
+    ($($name:ident)*) => {
+        extern "C" {
+            $(pub fn $name(
+                input: *const u8,
+                input_len: usize,
+                out: *mut u8,
+                out_len: usize,
+                place: *mut u64,
+                written: *mut u64,
+            ) -> u32;)*
+        }
+    };
+}
+
+output_calls! { kveldrim_read_text kveldrim_write_text kveldrim_read_list }

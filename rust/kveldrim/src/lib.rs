@@ -34,17 +34,18 @@ fn told<A>(number: u32, place: u64, answer: A) -> Result<A, Refusal> {
 
 /// Whether the file is well formed: 1 to 6.
 pub fn check(file: &[u8]) -> Result<(), Refusal> {
-    let mut place = 0;
-    // SAFETY: the slice and the number are lent for this call only.
-    let number = unsafe { ffi::kveldrim_check(file.as_ptr(), file.len(), &mut place) };
-    told(number, place, ())
+    checked(ffi::kveldrim_check, file)
 }
 
 /// Whether the file is well formed and has what a desktop entry needs: 1 to 6, 18.
 pub fn complete(file: &[u8]) -> Result<(), Refusal> {
+    checked(ffi::kveldrim_complete, file)
+}
+
+fn checked(call: ffi::FileCall, file: &[u8]) -> Result<(), Refusal> {
     let mut place = 0;
     // SAFETY: the slice and the number are lent for this call only.
-    let number = unsafe { ffi::kveldrim_complete(file.as_ptr(), file.len(), &mut place) };
+    let number = unsafe { call(file.as_ptr(), file.len(), &mut place) };
     told(number, place, ())
 }
 
@@ -55,22 +56,13 @@ pub fn lookup<'a>(file: &'a [u8], group: &[u8], key: &[u8]) -> Result<&'a [u8], 
 
 /// As [`lookup`], answered by where the value stands in the file.
 pub fn lookup_ends(file: &[u8], group: &[u8], key: &[u8]) -> Result<Range<usize>, Refusal> {
-    let (mut place, mut from, mut to) = (0, 0, 0);
     // SAFETY: the slices and the numbers are lent for this call only.
-    let number = unsafe {
-        ffi::kveldrim_lookup(
-            file.as_ptr(),
-            file.len(),
-            group.as_ptr(),
-            group.len(),
-            key.as_ptr(),
-            key.len(),
-            &mut place,
-            &mut from,
-            &mut to,
-        )
-    };
-    told(number, place, from as usize..to as usize)
+    ends(
+        [file, group, key],
+        |[(file, f), (group, g), (key, k)], [place, from, to]| unsafe {
+            ffi::kveldrim_lookup(file, f, group, g, key, k, place, from, to)
+        },
+    )
 }
 
 /// The raw value of a plain key that suits the locale best (`""`, `C` and `POSIX`: the plain one): 1 to 8.
@@ -90,23 +82,23 @@ pub fn choose_ends(
     key: &[u8],
     locale: &[u8],
 ) -> Result<Range<usize>, Refusal> {
-    let (mut place, mut from, mut to) = (0, 0, 0);
     // SAFETY: the slices and the numbers are lent for this call only.
-    let number = unsafe {
-        ffi::kveldrim_choose(
-            file.as_ptr(),
-            file.len(),
-            group.as_ptr(),
-            group.len(),
-            key.as_ptr(),
-            key.len(),
-            locale.as_ptr(),
-            locale.len(),
-            &mut place,
-            &mut from,
-            &mut to,
-        )
-    };
+    ends(
+        [file, group, key, locale],
+        |[(file, f), (group, g), (key, k), (locale, l)], [place, from, to]| unsafe {
+            ffi::kveldrim_choose(file, f, group, g, key, k, locale, l, place, from, to)
+        },
+    )
+}
+
+/// A call that finds a value. It gets the slices by pointer and length, and writes its place and the two ends.
+fn ends<const N: usize>(
+    slices: [&[u8]; N],
+    call: impl Fn([(*const u8, usize); N], [&mut u64; 3]) -> u32,
+) -> Result<Range<usize>, Refusal> {
+    let (mut place, mut from, mut to) = (0, 0, 0);
+    let lent = slices.map(|slice| (slice.as_ptr(), slice.len()));
+    let number = call(lent, [&mut place, &mut from, &mut to]);
     told(number, place, from as usize..to as usize)
 }
 

@@ -1,6 +1,6 @@
 //! Paper 01, "Edits and the journal", its first paragraph: the edit that a set or remove makes.
 
-use crate::file::{find_entry, find_group, read_groups};
+use crate::file::{find_asked, find_entry, find_group, read_groups, Entry};
 use crate::lines::{is_group, split_key};
 use crate::records::JOURNAL_HEAD;
 use crate::refusal::{Refusal, FILE_BOUND, RECORDS_BOUND};
@@ -114,15 +114,10 @@ fn set_edit(file: &[u8], group: &[u8], key: &[u8], text: &[u8]) -> Result<Edit, 
 
 /// "Remove: the line goes with its LF; a last line without LF goes with the LF before it."
 fn remove_edit(file: &[u8], group: &[u8], key: &[u8]) -> Result<Edit, Refusal> {
-    if !is_group(group) {
-        return Err(Refusal::new(7));
-    }
-    let (plain, postfix) = split_key(key).ok_or(Refusal::new(7))?;
     let groups = read_groups(file);
-    let group = find_group(&groups, group).ok_or(Refusal::new(8))?;
-    let entry = find_entry(group, plain, postfix).ok_or(Refusal::new(8))?;
-    let postfixed = |other: &crate::file::Entry| other.key == plain && other.postfix.is_some();
-    if postfix.is_none() && group.entries.iter().any(postfixed) {
+    let (group, entry) = find_asked(&groups, group, key)?;
+    let postfixed = |other: &Entry| other.key == entry.key && other.postfix.is_some();
+    if entry.postfix.is_none() && group.entries.iter().any(postfixed) {
         return Err(Refusal::new(17));
     }
     // An entry stands below its header, so a line comes before it.

@@ -176,15 +176,25 @@ fn is_boolean_key(key: &[u8]) -> bool {
     .contains(&key)
 }
 
-/// Lookup of a key with its postfix: 1 to 6, then 7, then 8; the answer is the raw value's two ends.
-pub fn lookup(file: &[u8], group: &[u8], key: &[u8]) -> Result<(usize, usize), Refusal> {
-    check(file)?;
+/// The entry of a group and a key argument with its postfix, and its group: 7, then 8.
+pub fn find_asked<'a, 'b>(
+    groups: &'b [Group<'a>],
+    group: &[u8],
+    key: &[u8],
+) -> Result<(&'b Group<'a>, &'b Entry<'a>), Refusal> {
     if !is_group(group) {
         return Err(Refusal::new(7));
     }
     let (key, postfix) = split_key(key).ok_or(Refusal::new(7))?;
-    let groups = read_groups(file);
-    let group = find_group(&groups, group).ok_or(Refusal::new(8))?;
+    let group = find_group(groups, group).ok_or(Refusal::new(8))?;
     let entry = find_entry(group, key, postfix).ok_or(Refusal::new(8))?;
+    Ok((group, entry))
+}
+
+/// Lookup of a key with its postfix: 1 to 6, then 7, then 8; the answer is the raw value's two ends.
+pub fn lookup(file: &[u8], group: &[u8], key: &[u8]) -> Result<(usize, usize), Refusal> {
+    check(file)?;
+    let groups = read_groups(file);
+    let (_, entry) = find_asked(&groups, group, key)?;
     Ok(entry.value)
 }

@@ -1,4 +1,4 @@
-//! The report of the program `crates/examples`, made again from the reference's answers. The questions are written here anew.
+//! The report of the program `crates/examples`, made from the reference's answers. The questions are written here again.
 
 use crate::common::{with_header, T};
 use reference::{check, choose, complete, lookup, read_list, read_text, write_text, Refusal};
