@@ -3,13 +3,19 @@ use crate::report::quote;
 use crate::report::say;
 use crate::report::tell_value;
 
-fn lookup<'a, 'b>(file: &'a [u8], group: &'b [u8], key: &'b [u8]) {
-    say(b"lookup ");
+// What a call that finds a value is asked.
+fn ask(call: &[u8], file: &[u8], group: &[u8], key: &[u8]) {
+    say(call);
+    say(b" ");
     quote(key);
     say(b" in ");
     quote(group);
     say(b" of ");
     quote(file);
+}
+
+fn lookup<'a, 'b>(file: &'a [u8], group: &'b [u8], key: &'b [u8]) {
+    ask(b"lookup", file, group, key);
     tell_value(
         entry::lookup_ends(file, group, key),
         entry::lookup(file, group, key),
@@ -17,12 +23,7 @@ fn lookup<'a, 'b>(file: &'a [u8], group: &'b [u8], key: &'b [u8]) {
 }
 
 fn choose<'a, 'b>(file: &'a [u8], group: &'b [u8], key: &'b [u8], locale: &'b [u8]) {
-    say(b"choose ");
-    quote(key);
-    say(b" in ");
-    quote(group);
-    say(b" of ");
-    quote(file);
+    ask(b"choose", file, group, key);
     say(b" for ");
     quote(locale);
     tell_value(
