@@ -12,17 +12,25 @@ pub record Edit : Type 0 where
   pub old : List ℕ
   pub new : List ℕ
 
+-- a file in which so many bytes at a place became the new ones
+unfoldable pub replaced : ℕ → ℕ → List ℕ → List ℕ → List ℕ
+replaced place old new file = take place file ++ (new ++ drop (place + old) file)
+
 -- the file after the edit
 unfoldable pub spliced : Edit → List ℕ → List ℕ
-spliced e file = take (e .place) file ++ (e .new ++ drop (e .place + length (e .old)) file)
+spliced e file = replaced (e .place) (length (e .old)) (e .new) file
 
 -- the edit that takes it back
 abbrev pub turned : Edit → Edit
 turned e = record { place = e .place; old = e .new; new = e .old }
 
--- the old bytes stand at the place, all inside the file
+-- these bytes stand at a place, all inside the file
+unfoldable pub standsAt : ℕ → List ℕ → List ℕ → Bool
+standsAt place old file = leb (place + length old) (length file) && same (part place (place + length old) file) old
+
+-- an edit's old bytes stand at its place
 unfoldable pub stands : Edit → List ℕ → Bool
-stands e file = leb (e .place + length (e .old)) (length file) && same (part (e .place) (e .place + length (e .old)) file) (e .old)
+stands e file = standsAt (e .place) (e .old) file
 
 -- A buffer whose first bytes were a file of this length and now are another: zeros up to the old length, then its own bytes.
 unfoldable pub bufferWith : List ℕ → ℕ → List ℕ → List ℕ
