@@ -1,2 +1,4 @@
 pub mod Splits
 pub mod Standing
+pub mod Move
+pub mod Whole
