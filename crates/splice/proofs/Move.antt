@@ -5,8 +5,8 @@ use Prim.Native.Nat.{ℕ, suc, _+_, _-_, _≤_, _<_}
 use native.Mathlib.Nat.{le-antisymm, add-zero}
 use native.Mathlib.Numerals.{add-one}
 use native.Mathlib.Omega.{arith}
-use lib.ListN.{length, take, drop, getD, set, length-set, List·getD-append, take-append-drop}
-use lib.Seq.{getD-take, getD-drop, take-suc, length-take-le, take-all, set-split, drop-cons}
+use lib.ListN.{length, take, drop, getD, set, length-drop, length-set, List·getD-append, take-append-drop}
+use lib.Seq.{getD-take, getD-drop, drop-drop, take-suc, length-take-le, take-all, set-split, drop-cons}
 use Rattle.base.specs.Over.{over}
 use Rattle.base.proofs.Over.{drop-over, over-then, over-before}
 
@@ -81,3 +81,7 @@ module _ {d : List ℕ} {at : ℕ} {s : List ℕ} {j : ℕ} {b : List ℕ} (w : 
 -- the tail from a place on begins with the byte there
 pub drop-back : (l : List ℕ) (j k v : ℕ) → suc j ≡ k → j < length l → v ≡ getD l j 0 → drop j l ≡ v ∷ drop k l
 drop-back l j k v e h ev = rw (← e, ev) (drop-cons l j 0 h)
+
+-- bytes that are written where they stand
+pub over-same : (b : List ℕ) (from to n : ℕ) → from ≡ to → from + n ≤ length b → b ≡ over b to (take n (drop from b))
+over-same b from to n e h = rw (e, length-take-le n (drop to b) (simp length-drop (omega arith)), ← drop-drop n to b, take-append-drop n (drop to b)) (sym (take-append-drop to b))

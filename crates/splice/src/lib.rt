@@ -57,14 +57,16 @@ fn move_up(buffer: &mut [u8], from: usize, to: usize, n: usize)
     }
 }
 
-// The same to any place.
+// The same to any place; nothing moves where both are one.
 fn shift(buffer: &mut [u8], from: usize, to: usize, n: usize)
     requires { ⌜ (from + n ≤ length (now buffer)) × (to + n ≤ length (now buffer)) ⌝ }
     ensures { λ _. ⌜ now (buffer .exit) ≡ over (now (buffer .entry)) to (take n (drop from (now (buffer .entry)))) ⌝ }
 {
     if from < to {
         move_up(buffer, from, to, n);
-    } else {
+        return;
+    }
+    if to < from {
         move_down(buffer, from, to, n);
     }
 }
