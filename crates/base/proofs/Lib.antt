@@ -1,6 +1,7 @@
 pub mod Scan
 pub mod Span
 pub mod Lists
+pub mod Parts
 pub mod Search
 pub mod Tail
 pub mod Over

@@ -13,7 +13,7 @@ use Rattle.wellformed.specs.Check.{fileMost, check}
 use Rattle.wellformed.specs.WellFormed.{wellFormed}
 use Rattle.splice.specs.Edit.{Edit, spliced, turned, stands, bufferWith}
 use Rattle.change.specs.Change.{Request, editOf}
-use Rattle.journal.specs.Journal.{Journal, journalMost, editRecord, editLength, readJournal}
+use Rattle.journal.specs.Journal.{Journal, journalMost, editRecord, editLength, readJournal, nextOf}
 
 -- what is lent: the file's buffer and length, the journal's buffer, bytes used and bytes standing
 pub record State : Type 0 where
@@ -78,11 +78,6 @@ replayed s e standing₁ = do
     used = s .used;
     standing = standing₁;
   })
-
--- the first of a list
-abbrev pub nextOf : List Edit → Option Edit
-nextOf [] = none
-nextOf (e ∷ es) = some e
 
 -- undo: 12 if nothing stands; the latest edit turned round, and its record no longer stands
 unfoldable pub undo : State → Answer State

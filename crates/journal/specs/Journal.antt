@@ -55,3 +55,8 @@ partedAt n stand (e ∷ es) =
 -- the journal in the used bytes; none: damaged
 unfoldable pub readJournal : List ℕ → ℕ → Option Journal
 readJournal used standing = maybe (cut used) none (λ rs. maybe (readEdits rs) none (partedAt standing []))
+
+-- the first of some edits
+abbrev pub nextOf : List Edit → Option Edit
+nextOf [] = none
+nextOf (e ∷ es) = some e

@@ -1,0 +1,58 @@
+-- What the functions of this crate answer, by the definitions of the journal. Assumes nothing.
+use mathlib.Core.Path.{_≡_}
+use Prim.Native.Nat.{ℕ, _+_, _≤_}
+use mathlib.Core.Option.{Option, none, some}
+use mathlib.Core.List.{List}
+use lib.ListN.{length, drop}
+use Rattle.base.specs.Choice.{pick, maybe}
+use Rattle.base.specs.Lists.{part}
+use Rattle.fault.specs.declared.Fault.the-variants.{Damaged, NothingLeft}
+use Rattle.fault.specs.Answer.{Answer, given, refused, _>>=_, some-or}
+use Rattle.record.specs.Record.{recordAt, whole, cut}
+use Rattle.splice.specs.Edit.{Edit}
+use Rattle.journal.specs.Journal.{Journal, editLength, readEdit, readEdits, readJournal, nextOf}
+use Rattle.journal.specs.declared.Next.{Next}
+use Rattle.journal.specs.declared.Next.the-variants as next
+use Rattle.journal.specs.declared.Walked.{Walked}
+use Rattle.journal.specs.declared.Walked.the-variants as walked
+
+-- ---- answers
+
+-- the edit that an answer names in the used bytes
+abbrev pub answered : List ℕ → Next → Answer Edit
+answered used next.Damaged = refused Damaged
+answered used next.Nothing = refused NothingLeft
+answered used (next.Edit place old new end) = given (record { place = place; old = part old new used; new = part new end used })
+
+-- the latest edit that stands
+abbrev pub latest : List ℕ → ℕ → Answer Edit
+latest used standing = some-or (readJournal used standing) Damaged >>= λ j. some-or (nextOf (j .stand)) NothingLeft
+
+-- the next edit that waits
+abbrev pub waiting : List ℕ → ℕ → Answer Edit
+waiting used standing = some-or (readJournal used standing) Damaged >>= λ j. some-or (nextOf (j .wait)) NothingLeft
+
+-- an edit's record ends at a place, among so many bytes
+abbrev pub EndsAt : ℕ → ℕ → Next → Type 0
+EndsAt size at (next.Edit place old new end) = (18 ≤ old) × (old ≤ new) × (new ≤ end) × (end ≤ size) × (end ≡ at)
+EndsAt size at next.Damaged = Unit
+EndsAt size at next.Nothing = Unit
+
+-- an edit's record begins at a place, among so many bytes
+abbrev pub BeginsAt : ℕ → ℕ → Next → Type 0
+BeginsAt size at (next.Edit place old new end) = (old ≡ at + 18) × (old ≤ new) × (new ≤ end) × (end ≤ size)
+BeginsAt size at next.Damaged = Unit
+BeginsAt size at next.Nothing = Unit
+
+-- ---- one record
+
+-- the edit in the record at a place; none: damaged
+unfoldable pub editAt : List ℕ → ℕ → Option Edit
+editAt s at = pick (whole (drop at s)) (readEdit (recordAt (drop at s))) none
+
+-- what is read at a place: the edit there, or that there is none
+abbrev pub Reads : List ℕ → ℕ → Next → Type 0
+Reads s at next.Damaged = editAt s at ≡ none
+Reads s at next.Nothing = ⊥
+Reads s at (next.Edit place old new end) =
+    (editAt s at ≡ some (record { place = place; old = part old new s; new = part new end s })) × BeginsAt (length s) at (next.Edit place old new end)
