@@ -1,2 +1,5 @@
 pub mod Records
 pub mod Read
+pub mod Edits
+pub mod Walking
+pub mod Answers

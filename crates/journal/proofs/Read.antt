@@ -14,9 +14,8 @@ use Rattle.record.specs.Number.{numberOf}
 use Rattle.record.specs.Record.{Rec, recordLength, whole}
 use Rattle.record.proofs.Place.{Stands}
 use Rattle.record.proofs.Cut.{body-at}
-use Rattle.journal.specs.declared.Next.the-variants as next
 use Rattle.journal.specs.Journal.{readEdit}
-use Rattle.journal.specs.Walk.{editAt, Reads}
+use Rattle.journal.specs.Walk.{editAt, Holds}
 
 -- ---- a record
 
@@ -73,14 +72,18 @@ module _ {s : List ℕ} {at kind end : ℕ} (r : Stands s at kind end) where
     edit-unlike d = edit-there ∙ read-unlike _ (λ e. d (omega (arith, length-body, e, old-at, new-at)))
 
     pub edit-read : {place : ℕ} → kind ≡ 1 → end - at ≡ 18 + old + new → place ≡ numberOf (take 4 (drop (at + 6) s))
-        → Reads s at (next.Edit place (at + 18) (at + 18 + old) end)
+        → Holds s at place (at + 18) (at + 18 + old) end
     edit-read k l p =
         let h = r .inside in
         let a : at + 6 + 12 ≡ at + 18 = omega arith in
         let b : at + 6 + (12 + old) ≡ at + 18 + old = omega arith in
         let q = ap numberOf (four-at 0 (at + 6) (omega arith) (omega arith)) ∙ sym p in
         let x = part-part 12 (12 + old) (at + 6) end s (omega arith) in
-        let y = drop-part (12 + old) (at + 6) end s in (
-          edit-there ∙ read-this _ k old-at new-at (length-body ∙ l) ∙ rw (q, x, y, a, b),
-          (refl, omega arith, omega arith, h),
-        )
+        let y = drop-part (12 + old) (at + 6) end s in
+        record {
+          edit = edit-there ∙ read-this _ k old-at new-at (length-body ∙ l) ∙ rw (q, x, y, a, b);
+          head = refl;
+          old-bytes = omega arith;
+          new-bytes = omega arith;
+          inside = h;
+        }

@@ -1,6 +1,6 @@
 -- What the functions of this crate answer, by the definitions of the journal. Assumes nothing.
 use mathlib.Core.Path.{_≡_}
-use Prim.Native.Nat.{ℕ, _+_, _≤_}
+use Prim.Native.Nat.{ℕ, _+_, _≤_, _<_}
 use mathlib.Core.Option.{Option, none, some}
 use mathlib.Core.List.{List}
 use lib.ListN.{length, drop}
@@ -50,9 +50,44 @@ BeginsAt size at next.Nothing = Unit
 unfoldable pub editAt : List ℕ → ℕ → Option Edit
 editAt s at = pick (whole (drop at s)) (readEdit (recordAt (drop at s))) none
 
--- what is read at a place: the edit there, or that there is none
+-- the record at a place holds an edit, whose old and new bytes stand one after the other up to its end
+pub record Holds (s : List ℕ) (at place old new end : ℕ) : Type 0 where
+  pub edit : editAt s at ≡ some (record { place = place; old = part old new s; new = part new end s })
+  pub head : old ≡ at + 18
+  pub old-bytes : old ≤ new
+  pub new-bytes : new ≤ end
+  pub inside : end ≤ length s
+
+-- what is read at a place: an edit, none though there are bytes, or the end
 abbrev pub Reads : List ℕ → ℕ → Next → Type 0
-Reads s at next.Damaged = editAt s at ≡ none
-Reads s at next.Nothing = ⊥
-Reads s at (next.Edit place old new end) =
-    (editAt s at ≡ some (record { place = place; old = part old new s; new = part new end s })) × BeginsAt (length s) at (next.Edit place old new end)
+Reads s at next.Damaged = (at < length s) × (editAt s at ≡ none)
+Reads s at next.Nothing = length s ≤ at
+Reads s at (next.Edit place old new end) = Holds s at place old new end
+
+-- ---- all records
+
+-- the edits whose records fill the bytes; none: damaged
+unfoldable pub edits : List ℕ → Option (List Edit)
+edits s = maybe (cut s) none readEdits
+
+-- the record of the latest edit begins at a place and ends at another; where there is none, that is the start
+abbrev pub Latest : List ℕ → ℕ → ℕ → Option Edit → Type 0
+Latest s last end none = end ≡ 0
+Latest s last end (some e) = (editAt s last ≡ some e) × (last + editLength e ≡ end)
+
+-- the record of the next edit begins at a place; where there is none, that is the end
+abbrev pub Follows : List ℕ → ℕ → Option Edit → Type 0
+Follows s at none = length s ≤ at
+Follows s at (some e) = editAt s at ≡ some e
+
+-- a sound journal, and where its latest record that stands begins
+pub record Parted (s : List ℕ) (standing last : ℕ) : Type 0 where
+  pub journal : Journal
+  pub reads : readJournal s standing ≡ some journal
+  pub latest-at : Latest s last standing (nextOf (journal .stand))
+  pub next-at : Follows s standing (nextOf (journal .wait))
+
+-- what a walk over the records finds
+abbrev pub Walks : List ℕ → ℕ → Walked → Type 0
+Walks s standing walked.Damaged = readJournal s standing ≡ none
+Walks s standing (walked.Sound last) = Parted s standing last

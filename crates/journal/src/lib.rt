@@ -2,10 +2,11 @@
 use record::Front;
 ghost use mathlib.Core.Path.{_≡_};
 ghost use Prim.Native.Nat.{_+_, _≤_};
-ghost use lib.ListN.{length};
+ghost use lib.ListN.{length, drop};
+ghost use Rattle.base.specs.Choice.{there};
 ghost use Rattle.record.specs.declared.Front.the-variants as front;
 ghost use Rattle.record.specs.Walk.{frontAt};
-ghost use Rattle.journal.specs.Walk.{Reads};
+ghost use Rattle.journal.specs.Walk.{Reads, edits, Walks};
 
 // An edit from the journal: its place, where its old bytes start, where its new bytes start and where its record ends.
 pub enum Next {
@@ -48,10 +49,13 @@ fn read_parts(used: &[u8], at: usize, end: usize) -> Next
     }
 }
 
-// The edit in the record at a place.
+// The edit in the record at a place; at the end there is nothing.
 fn read_edit(used: &[u8], at: usize) -> Next
     ensures { λ r. ⌜ Reads (now (used .entry)) at r ⌝ }
 {
+    if used.len() <= at {
+        return Next::Nothing;
+    }
     let Front::Record { kind, end } = record::read(used, at) else {
         return Next::Damaged;
     };
@@ -59,4 +63,63 @@ fn read_edit(used: &[u8], at: usize) -> Next
         return Next::Damaged;
     }
     read_parts(used, at, end)
+}
+
+// Whether the records of edits fill the bytes from a place on.
+fn filled(used: &[u8], from: usize) -> bool
+    ensures { λ r. ⌜ r ≡ there (edits (drop from (now (used .entry)))) ⌝ }
+{
+    let mut at = from;
+    loop {
+        match read_edit(used, at) {
+            Next::Damaged => {
+                return false;
+            }
+            Next::Nothing => {
+                return true;
+            }
+            Next::Edit {
+                place: _,
+                old: _,
+                new: _,
+                end,
+            } => {
+                at = end;
+            }
+        }
+    }
+}
+
+// All records, each once: those that stand, then those that wait.
+fn walk(used: &[u8], standing: usize) -> Walked
+    ensures { λ r. ⌜ Walks (now (used .entry)) standing r ⌝ }
+{
+    let mut at: usize = 0;
+    let mut last: usize = 0;
+    while at < standing {
+        match read_edit(used, at) {
+            Next::Damaged => {
+                return Walked::Damaged;
+            }
+            Next::Nothing => {
+                return Walked::Damaged;
+            }
+            Next::Edit {
+                place: _,
+                old: _,
+                new: _,
+                end,
+            } => {
+                if standing < end {
+                    return Walked::Damaged;
+                }
+                last = at;
+                at = end;
+            }
+        }
+    }
+    if filled(used, standing) {
+        return Walked::Sound { last };
+    }
+    Walked::Damaged
 }

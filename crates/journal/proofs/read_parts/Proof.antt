@@ -11,7 +11,7 @@ returns-2 : tie.Need-returns-2
 returns-2 c =
     let n = c .before in
     let s = n .before .before .before .before in
-    edit-unlike (front-record _ _ (s .pre .0)) (omega arith) (n .before .number4 .ensures .0) (n .number42 .ensures .0) (c .if2 .taken)
+    (omega arith, edit-unlike (front-record _ _ (s .pre .0)) (omega arith) (n .before .number4 .ensures .0) (n .number42 .ensures .0) (c .if2 .taken))
 
 returns-3 : tie.Need-returns-3
 returns-3 c =
@@ -24,7 +24,7 @@ read-parts-spec =
     tie.close
     (tie.spec
     (λ c. search needs)
-    (λ c. edit-short (front-record _ _ (c .before .before .pre .0)) (c .if1 .taken))
+    (λ c. (omega arith, edit-short (front-record _ _ (c .before .before .pre .0)) (c .if1 .taken)))
     (λ c. search needs)
     (λ c κs. search needs)
     (λ c. search needs)

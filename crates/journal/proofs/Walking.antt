@@ -1,0 +1,151 @@
+-- The walk over a journal's records, first those that stand and then the others. Assumes nothing.
+use mathlib.Core.Path.{_≡_, refl, sym, ap, _∙_}
+use mathlib.Core.Bool.{Bool, true, false}
+use mathlib.Core.Option.{Option, none, some, Option·map}
+use mathlib.Core.List.{List, [], _∷_}
+use Prim.Native.Nat.{ℕ, _+_, _-_, _≤_, _<_}
+use native.Mathlib.Nat.{sub-zero, sub-self}
+use native.Mathlib.Omega.{arith}
+use borrow.Author.Tests.{le-leb, lt-leb, ne-eqb}
+use lib.ListN.{length, drop}
+use Rattle.base.specs.Choice.{maybe, there}
+use Rattle.base.specs.Lists.{part}
+use Rattle.base.proofs.Lists.{length-part}
+use Rattle.base.proofs.Tests.{no}
+use Rattle.record.specs.Record.{Rec, cut}
+use Rattle.splice.specs.Edit.{Edit}
+use Rattle.journal.specs.declared.Next.{Next}
+use Rattle.journal.specs.declared.Next.the-variants as next
+use Rattle.journal.specs.Journal.{Journal, editLength, readEdits, partedAt, readJournal, nextOf}
+use Rattle.journal.specs.Walk.{editAt, Holds, edits, Latest, Follows, Parted}
+use Rattle.journal.proofs.Edits.{edits-done, edits-damaged, edits-step, edits-first}
+
+-- ---- a record that was read
+
+-- the edit that an answer names
+abbrev pub named : List ℕ → (place old new end : ℕ) → Edit
+named s place old new end = record { place = place; old = part old new s; new = part new end s }
+
+module _ {s : List ℕ} {at place old new end : ℕ} (r : Holds s at place old new end) where
+  pub named-length : at + editLength (named s place old new end) ≡ end
+  named-length = omega (arith, length-part old new s (omega arith), length-part new end s (omega arith))
+
+  -- those from its end on are left
+  pub edits-behind : edits (drop at s) ≡ Option·map (λ es. named s place old new end ∷ es) (edits (drop end s))
+  edits-behind = edits-step s at (r .edit) ∙ rw named-length
+
+-- ---- whether records of edits fill the bytes from a place on
+
+there-map : {A B : Type 0} (f : A → B) (o : Option A) → there (Option·map f o) ≡ there o
+there-map f none = refl
+there-map f (some a) = refl
+
+-- those from another place on decide
+pub record Filling (s : List ℕ) (from at : ℕ) : Type 0 where
+  pub same : there (edits (drop at s)) ≡ there (edits (drop from s))
+
+pub fill-begin : (s : List ℕ) (from : ℕ) → Filling s from from
+fill-begin s from = record { same = refl }
+
+module _ {s : List ℕ} {from at : ℕ} (w : Filling s from at) where
+  pub fill-damaged : at < length s → editAt s at ≡ none → false ≡ there (edits (drop from s))
+  fill-damaged h e = rw (edits-damaged s at h e) at (w .same)
+
+  pub fill-next : {place old new end : ℕ} → Holds s at place old new end → Filling s from end
+  fill-next {end = end} r = record { same = sym (there-map _ (edits (drop end s))) ∙ rw (edits-behind r) at (w .same) }
+
+  pub fill-done : length s ≤ at → true ≡ there (edits (drop from s))
+  fill-done h = rw (edits-done s at h) at (w .same)
+
+-- ---- the records that stand
+
+-- the edits up to a place stand, and those from there on decide
+pub record Walking (s : List ℕ) (standing at last : ℕ) : Type 0 where
+  pub stand : List Edit
+  pub below : at ≤ standing
+  pub same : readJournal s standing ≡ maybe (edits (drop at s)) none (partedAt (standing - at) stand)
+  pub top : Latest s last at (nextOf stand)
+
+pub walk-begin : (s : List ℕ) (standing : ℕ) → Walking s standing 0 0
+unfolding readJournal edits
+walk-begin s standing = record { stand = []; below = omega arith; same = rw sub-zero (go (cut s)); top = refl }
+  where
+    go : (o : Option (List Rec)) → maybe o none (λ rs. maybe (readEdits rs) none (partedAt standing [])) ≡ maybe (maybe o none readEdits) none (partedAt standing [])
+    go none = refl
+    go (some rs) = refl
+
+-- one edit more, within the bytes that stand or beyond them
+parted-next : (n : ℕ) (stand : List Edit) (e : Edit) (o : Option (List Edit)) → editLength e ≤ n
+    → maybe (Option·map (λ es. e ∷ es) o) none (partedAt n stand) ≡ maybe o none (partedAt (n - editLength e) (e ∷ stand))
+unfolding partedAt
+parted-next n stand e none h = refl
+parted-next n stand e (some es) h = rw (ne-eqb n 0 (λ z. omega arith), le-leb _ _ h)
+
+parted-beyond : (n : ℕ) (stand : List Edit) (e : Edit) (o : Option (List Edit)) → 0 < n → n < editLength e
+    → maybe (Option·map (λ es. e ∷ es) o) none (partedAt n stand) ≡ none
+unfolding partedAt
+parted-beyond n stand e none p h = refl
+parted-beyond n stand e (some es) p h = rw (ne-eqb n 0 (λ z. omega arith), lt-leb _ _ h)
+
+-- no more edits, though some bytes of records stand; and no more bytes that stand
+parted-short : (n : ℕ) (stand : List Edit) → 0 < n → partedAt n stand [] ≡ none
+unfolding partedAt
+parted-short n stand p = rw (ne-eqb n 0 (λ z. omega arith))
+
+parted-end : (stand es : List Edit) → partedAt 0 stand es ≡ some (record { stand = stand; wait = es })
+unfolding partedAt
+parted-end stand [] = refl
+parted-end stand (e ∷ es) = refl
+
+module _ {s : List ℕ} {standing at last : ℕ} (w : Walking s standing at last) where
+  pub walk-damaged : at < length s → editAt s at ≡ none → readJournal s standing ≡ none
+  walk-damaged h e = w .same ∙ rw (edits-damaged s at h e)
+
+  pub walk-short : at < standing → length s ≤ at → readJournal s standing ≡ none
+  walk-short h k = w .same ∙ rw (edits-done s at k) (parted-short (standing - at) (w .stand) (omega arith))
+
+  module _ {place old new end : ℕ} (r : Holds s at place old new end) where
+    pub walk-beyond : at < standing → standing < end → readJournal s standing ≡ none
+    walk-beyond h k =
+        w .same ∙ rw (edits-behind r) (parted-beyond (standing - at) (w .stand) (named s place old new end) (edits (drop end s)) (omega arith) (omega (arith, named-length r)))
+
+    pub walk-next : end ≤ standing → Walking s standing end at
+    walk-next k =
+        let e : Edit = named s place old new end in
+        let l = named-length r in
+        let n : standing - at - editLength e ≡ standing - end = omega arith in
+        record {
+          stand = e ∷ w .stand;
+          below = k;
+          same = w .same ∙ rw (edits-behind r, parted-next (standing - at) (w .stand) e (edits (drop end s)) (omega arith), n);
+          top = (r .edit, l);
+        }
+
+  -- where all are passed that stand, those behind decide
+  walk-left : standing ≤ at → readJournal s standing ≡ maybe (edits (drop standing s)) none (partedAt 0 (w .stand))
+  walk-left h =
+      let e : at ≡ standing = omega (arith, w .below) in
+      rw (e, sub-self) at (w .same)
+
+  pub walk-unsound : standing ≤ at → false ≡ there (edits (drop standing s)) → readJournal s standing ≡ none
+  walk-unsound h = go (edits (drop standing s)) (walk-left h)
+    where
+      go : (o : Option (List Edit)) → readJournal s standing ≡ maybe o none (partedAt 0 (w .stand)) → false ≡ there o → readJournal s standing ≡ none
+      go none l f = l
+      go (some es) l f = no (cc)
+
+  pub walk-sound : standing ≤ at → true ≡ there (edits (drop standing s)) → Parted s standing last
+  walk-sound h = go (edits (drop standing s)) refl (walk-left h)
+    where
+      e : at ≡ standing
+      e = omega (arith, w .below)
+
+      go : (o : Option (List Edit)) → edits (drop standing s) ≡ o → readJournal s standing ≡ maybe o none (partedAt 0 (w .stand)) → true ≡ there o → Parted s standing last
+      go none q l f = no (cc)
+      go (some es) q l f =
+          record {
+            journal = record { stand = w .stand; wait = es };
+            reads = l ∙ parted-end (w .stand) es;
+            latest-at = rw e at (w .top);
+            next-at = edits-first s standing es q;
+          }
