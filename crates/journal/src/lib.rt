@@ -6,7 +6,8 @@ ghost use lib.ListN.{length, drop};
 ghost use Rattle.base.specs.Choice.{there};
 ghost use Rattle.record.specs.declared.Front.the-variants as front;
 ghost use Rattle.record.specs.Walk.{frontAt};
-ghost use Rattle.journal.specs.Walk.{Reads, edits, Walks};
+ghost use Rattle.journal.specs.Journal.{readJournal};
+ghost use Rattle.journal.specs.Walk.{answered, latest, waiting, EndsAt, BeginsAt, Reads, edits, Walks};
 
 // An edit from the journal: its place, where its old bytes start, where its new bytes start and where its record ends.
 pub enum Next {
@@ -122,4 +123,37 @@ fn walk(used: &[u8], standing: usize) -> Walked
         return Walked::Sound { last };
     }
     Walked::Damaged
+}
+
+// Whether the used bytes are a journal of which so many stand.
+pub fn sound(used: &[u8], standing: usize) -> bool
+    ensures { λ r. ⌜ r ≡ there (readJournal (now (used .entry)) standing) ⌝ }
+{
+    match walk(used, standing) {
+        Walked::Damaged => false,
+        Walked::Sound { last: _ } => true,
+    }
+}
+
+// The latest edit that stands: what an undo takes back.
+pub fn last_standing(used: &[u8], standing: usize) -> Next
+    ensures { λ r. ⌜ (answered (now (used .entry)) r ≡ latest (now (used .entry)) standing) × EndsAt (length (now (used .entry))) standing r ⌝ }
+{
+    let Walked::Sound { last } = walk(used, standing) else {
+        return Next::Damaged;
+    };
+    if standing == 0 {
+        return Next::Nothing;
+    }
+    read_edit(used, last)
+}
+
+// The next edit that waits: what a redo makes again.
+pub fn first_waiting(used: &[u8], standing: usize) -> Next
+    ensures { λ r. ⌜ (answered (now (used .entry)) r ≡ waiting (now (used .entry)) standing) × BeginsAt (length (now (used .entry))) standing r ⌝ }
+{
+    let Walked::Sound { last: _ } = walk(used, standing) else {
+        return Next::Damaged;
+    };
+    read_edit(used, standing)
 }
