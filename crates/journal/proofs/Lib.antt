@@ -3,3 +3,4 @@ pub mod Read
 pub mod Edits
 pub mod Walking
 pub mod Answers
+pub mod Front

@@ -2,13 +2,14 @@
 use mathlib.Core.Path.{_≡_}
 use Prim.Native.Nat.{ℕ, _+_, _≤_, _<_}
 use mathlib.Core.Option.{Option, none, some}
-use mathlib.Core.List.{List}
+use mathlib.Core.List.{List, _++_}
 use lib.ListN.{length, drop}
 use Rattle.base.specs.Choice.{pick, maybe}
 use Rattle.base.specs.Lists.{part}
 use Rattle.fault.specs.declared.Fault.the-variants.{Damaged, NothingLeft}
 use Rattle.fault.specs.Answer.{Answer, given, refused, _>>=_, some-or}
-use Rattle.record.specs.Record.{recordAt, whole, cut}
+use Rattle.record.specs.Number.{littleEndian}
+use Rattle.record.specs.Record.{headBytes, recordAt, whole, cut}
 use Rattle.splice.specs.Edit.{Edit}
 use Rattle.journal.specs.Journal.{Journal, editLength, readEdit, readEdits, readJournal, nextOf}
 use Rattle.journal.specs.declared.Next.{Next}
@@ -43,6 +44,12 @@ abbrev pub BeginsAt : ℕ → ℕ → Next → Type 0
 BeginsAt size at (next.Edit place old new end) = (old ≡ at + 18) × (old ≤ new) × (new ≤ end) × (end ≤ size)
 BeginsAt size at next.Damaged = Unit
 BeginsAt size at next.Nothing = Unit
+
+-- ---- writing
+
+-- the record of an edit up to its new bytes, of which only the number is given
+unfoldable pub editFront : ℕ → List ℕ → ℕ → List ℕ
+editFront place old new = headBytes (18 + length old + new) 1 ++ (littleEndian 4 place ++ (littleEndian 4 (length old) ++ (littleEndian 4 new ++ old)))
 
 -- ---- one record
 

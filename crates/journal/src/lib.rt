@@ -4,10 +4,12 @@ ghost use mathlib.Core.Path.{_≡_};
 ghost use Prim.Native.Nat.{_+_, _≤_};
 ghost use lib.ListN.{length, drop};
 ghost use Rattle.base.specs.Choice.{there};
+ghost use Rattle.base.specs.Over.{over};
+ghost use Rattle.record.specs.Number.{littleEndian};
 ghost use Rattle.record.specs.declared.Front.the-variants as front;
 ghost use Rattle.record.specs.Walk.{frontAt};
 ghost use Rattle.journal.specs.Journal.{readJournal};
-ghost use Rattle.journal.specs.Walk.{answered, latest, waiting, EndsAt, BeginsAt, Reads, edits, Walks};
+ghost use Rattle.journal.specs.Walk.{answered, latest, waiting, EndsAt, BeginsAt, editFront, Reads, edits, Walks};
 
 // An edit from the journal: its place, where its old bytes start, where its new bytes start and where its record ends.
 pub enum Next {
@@ -156,4 +158,25 @@ pub fn first_waiting(used: &[u8], standing: usize) -> Next
         return Next::Damaged;
     };
     read_edit(used, standing)
+}
+
+// A number in four bytes at a place.
+fn put_number(out: &mut [u8], at: usize, n: usize)
+    requires { ⌜ at + 4 ≤ length (now out) ⌝ }
+    ensures { λ _. ⌜ now (out .exit) ≡ over (now (out .entry)) at (littleEndian 4 n) ⌝ }
+{
+    record::put4(&mut out[at..], n);
+}
+
+// The record of an edit at a place, up to its new bytes, for which there is room.
+pub fn put_front(out: &mut [u8], at: usize, place: usize, old: &[u8], new: usize)
+    requires { ⌜ at + (18 + length (now old) + new) ≤ length (now out) ⌝ }
+    ensures { λ _. ⌜ now (out .exit) ≡ over (now (out .entry)) at (editFront place (now (old .entry)) new) ⌝ }
+{
+    let n = old.len();
+    record::put_head(&mut out[at..], 18 + n + new, 1);
+    put_number(out, at + 6, place);
+    put_number(out, at + 10, n);
+    put_number(out, at + 14, new);
+    splice::write(out, at + 18, old);
 }
