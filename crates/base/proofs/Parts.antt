@@ -1,11 +1,11 @@
 -- Parts of parts. Assumes nothing.
-use mathlib.Core.Path.{_≡_, refl}
+use mathlib.Core.Path.{_≡_}
 use mathlib.Core.List.{List, [], _∷_}
 use Prim.Native.Nat.{ℕ, zero, suc, _+_, _-_, _≤_}
 use native.Mathlib.Nat.{sub-zero}
 use native.Mathlib.Omega.{arith}
-use lib.ListN.{length, take, drop, length-drop}
-use lib.Seq.{take-nil, drop-nil, take-take, drop-drop}
+use lib.ListN.{take, drop}
+use lib.Seq.{take-nil, take-take, drop-drop}
 use Rattle.base.specs.Lists.{part}
 
 pub drop-take : (n m : ℕ) (s : List ℕ) → drop n (take m s) ≡ take (m - n) (drop n s)

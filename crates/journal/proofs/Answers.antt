@@ -5,16 +5,15 @@ use mathlib.Core.List.{List, []}
 use Prim.Native.Nat.{ℕ, _+_, _≤_}
 use native.Mathlib.Omega.{arith}
 use lib.ListN.{length}
-use Rattle.base.specs.Choice.{there}
 use Rattle.base.proofs.Scan.{done}
 use Rattle.base.proofs.Tests.{no}
 use Rattle.fault.specs.declared.Fault.the-variants.{Damaged, NothingLeft}
-use Rattle.fault.specs.Answer.{Answer, given, refused, some-or}
+use Rattle.fault.specs.Answer.{given, refused, some-or}
 use Rattle.record.proofs.Place.{no-head}
 use Rattle.splice.specs.Edit.{Edit}
 use Rattle.journal.specs.declared.Next.{Next}
 use Rattle.journal.specs.declared.Next.the-variants as next
-use Rattle.journal.specs.Journal.{Journal, editLength, readJournal, nextOf}
+use Rattle.journal.specs.Journal.{editLength, readJournal, nextOf}
 use Rattle.journal.specs.Walk.{answered, latest, waiting, EndsAt, BeginsAt, editAt, Reads, Latest, Follows, Parted}
 use Rattle.journal.proofs.Read.{no-edit}
 use Rattle.journal.proofs.Walking.{named, named-length}

@@ -1,15 +1,15 @@
 -- The edits of some bytes, record by record. Assumes nothing.
-use mathlib.Core.Path.{_≡_, refl, sym, ap, _∙_}
+use mathlib.Core.Path.{_≡_, refl, sym, _∙_}
 use mathlib.Core.Bool.{Bool, true, false, _&&_}
 use mathlib.Core.Option.{Option, none, some, Option·map}
 use mathlib.Core.List.{List, [], _∷_}
-use Prim.Native.Nat.{ℕ, _+_, _-_, _≤_, _<_}
+use Prim.Native.Nat.{ℕ, _+_, _≤_, _<_}
 use native.Mathlib.Omega.{arith}
 use borrow.Author.Tests.{eqb-true, leb-true, leb-false}
-use lib.ListN.{length, take, drop, length-drop}
+use lib.ListN.{length, drop, length-drop}
 use lib.Seq.{drop-drop}
 use lib.Dec.{eqb, leb}
-use Rattle.base.specs.Choice.{pick, maybe, there}
+use Rattle.base.specs.Choice.{pick, maybe}
 use Rattle.base.specs.Lists.{part}
 use Rattle.base.proofs.Lists.{length-part}
 use Rattle.base.proofs.Scan.{done}
@@ -19,9 +19,8 @@ use Rattle.record.specs.Record.{Rec, recordLength, lengthAt, recordAt, whole, c
 use Rattle.record.proofs.Place.{whole-bounds}
 use Rattle.record.proofs.Cut.{cut-none, cut-step, cut-damaged-at}
 use Rattle.splice.specs.Edit.{Edit}
-use Rattle.journal.specs.declared.Next.the-variants as next
 use Rattle.journal.specs.Journal.{editLength, readEdit, readEdits, nextOf}
-use Rattle.journal.specs.Walk.{editAt, edits, Reads, Follows}
+use Rattle.journal.specs.Walk.{editAt, edits, Follows}
 
 -- a choice that gave something passed its test
 picked : {A : Type 0} (t : Bool) {x y : A} → pick t (some x) none ≡ some y → (t ≡ true) × (x ≡ y)

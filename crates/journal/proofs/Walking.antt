@@ -1,6 +1,6 @@
 -- The walk over a journal's records, first those that stand and then the others. Assumes nothing.
-use mathlib.Core.Path.{_≡_, refl, sym, ap, _∙_}
-use mathlib.Core.Bool.{Bool, true, false}
+use mathlib.Core.Path.{_≡_, refl, sym, _∙_}
+use mathlib.Core.Bool.{true, false}
 use mathlib.Core.Option.{Option, none, some, Option·map}
 use mathlib.Core.List.{List, [], _∷_}
 use Prim.Native.Nat.{ℕ, _+_, _-_, _≤_, _<_}
@@ -14,10 +14,8 @@ use Rattle.base.proofs.Lists.{length-part}
 use Rattle.base.proofs.Tests.{no}
 use Rattle.record.specs.Record.{Rec, cut}
 use Rattle.splice.specs.Edit.{Edit}
-use Rattle.journal.specs.declared.Next.{Next}
-use Rattle.journal.specs.declared.Next.the-variants as next
-use Rattle.journal.specs.Journal.{Journal, editLength, readEdits, partedAt, readJournal, nextOf}
-use Rattle.journal.specs.Walk.{editAt, Holds, edits, Latest, Follows, Parted}
+use Rattle.journal.specs.Journal.{editLength, readEdits, partedAt, readJournal, nextOf}
+use Rattle.journal.specs.Walk.{editAt, Holds, edits, Latest, Parted}
 use Rattle.journal.proofs.Edits.{edits-done, edits-damaged, edits-step, edits-first}
 
 -- ---- a record that was read
