@@ -8,7 +8,7 @@ use lib.ListN.{length, take, drop, replicate, length-append, length-drop, length
 use lib.Seq.{take-at, drop-at, take-append-seam}
 use borrow.Author.Tests.{le-leb}
 use Rattle.base.proofs.Tests.{same-refl}
-use Rattle.splice.specs.Edit.{Edit, spliced, turned, stands, bufferWith}
+use Rattle.splice.specs.Edit.{Edit, spliced, turned, stands, bufferWith, replaced, standsAt}
 
 pub record Splits (e : Edit) (f : List ℕ) : Type 0 where
   pub front : List ℕ
@@ -19,7 +19,7 @@ pub record Splits (e : Edit) (f : List ℕ) : Type 0 where
 module _ (e : Edit) (f : List ℕ) (h : Splits e f) where
   -- the edit puts the new bytes between the same parts
   pub splits-spliced : spliced e f ≡ h .front ++ (e .new ++ h .back)
-  unfolding spliced
+  unfolding spliced replaced
   splits-spliced =
       let l : length (h .front ++ e .old) ≡ e .place + length (e .old) = length-append (h .front) (e .old) ∙ ap (λ (n : ℕ). n + length (e .old)) (h .at) in
       ap (λ (s : List ℕ). take (e .place) s ++ (e .new ++ drop (e .place + length (e .old)) s)) (h .is)
@@ -40,7 +40,7 @@ module _ (e : Edit) (f : List ℕ) (h : Splits e f) where
   splits-length = ap length (h .is) ∙ length-append (h .front) (e .old ++ h .back) ∙ rw (h .at, length-append (e .old) (h .back)) (omega arith)
 
   pub splits-stands : stands e f ≡ true
-  unfolding stands
+  unfolding stands standsAt
   splits-stands =
       let l = splits-length in
       let n : e .place + length (e .old) - e .place ≡ length (e .old) = omega arith in
