@@ -162,6 +162,9 @@ fn entry_after(s: &[u8], key: usize, name: usize) -> Line
         return Line::Bad(sign);
     }
     let value = text::classes::span_end(s, sign + 1, Class::Space);
+    if text::utf8::is_surely_value(s, value) {
+        return Line::Entry { key, name, value };
+    }
     match text::utf8::scan(&s[value..], Content::Value) {
         Scan::Sound => Line::Entry { key, name, value },
         Scan::Fault(n) => Line::Bad(value + n),

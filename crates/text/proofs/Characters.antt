@@ -29,7 +29,7 @@ abbrev pub EndsIn : ℕ → ℕ → Rest → Type 0
 EndsIn i n (End j) = (i < j) × (j ≤ n)
 EndsIn i n (Fault j) = j ≤ n
 
-tail-step : (plain : ℕ → Bool) (more low high b : ℕ) → within low high b ≡ true → step plain (Tail more low high) b ≡ some (tails more)
+pub tail-step : (plain : ℕ → Bool) (more low high b : ℕ) → within low high b ≡ true → step plain (Tail more low high) b ≡ some (tails more)
 unfolding step
 tail-step plain more low high b e = rw e
 
@@ -75,7 +75,7 @@ rest-ends s (suc more) i low high h =
 
 -- ---- a whole character
 
-lead-step : (plain : ℕ → Bool) (b : ℕ) → 128 ≤ b → step plain Start b ≡ lead b
+pub lead-step : (plain : ℕ → Bool) (b : ℕ) → 128 ≤ b → step plain Start b ≡ lead b
 unfolding step
 lead-step plain b h = rw (le-ltb b 128 h)
 

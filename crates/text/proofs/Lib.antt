@@ -8,3 +8,4 @@ pub mod ReadBack
 pub mod Values
 pub mod Endings
 pub mod Letters
+pub mod Windows

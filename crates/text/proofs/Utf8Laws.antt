@@ -84,7 +84,7 @@ fault-lent plain s from = rw (tail-lent from s, ← length-drop from s) (fault-w
 -- ---- ASCII bytes at the front that are passed at once
 
 -- an ASCII byte that may stand is a character
-step-plain : (plain : ℕ → Bool) (b : ℕ) → valueByte b ≡ true → plain b ≡ true → step plain Start b ≡ some Start
+pub step-plain : (plain : ℕ → Bool) (b : ℕ) → valueByte b ≡ true → plain b ≡ true → step plain Start b ≡ some Start
 unfolding step valueByte
 step-plain plain b v p =
     let w = and-both (leb 32 b) (leb b 126) v in

@@ -4,3 +4,4 @@ pub mod Escape
 pub mod Element
 pub mod Output
 pub mod Step
+pub mod Window

@@ -6,11 +6,14 @@ use crate::Rest;
 use crate::Scan;
 use crate::classes;
 ghost use mathlib.Core.Path.{_≡_};
-ghost use Prim.Native.Nat.{_<_};
-ghost use lib.ListN.{length};
-ghost use Rattle.text.specs.Class.{ascii};
+ghost use mathlib.Core.Bool.{true};
+ghost use mathlib.Core.Option.{none};
+ghost use Prim.Native.Nat.{_+_, _<_, _≤_};
+ghost use lib.ListN.{length, drop};
+ghost use Rattle.text.specs.Class.{valueByte, ascii};
 ghost use Rattle.text.specs.Utf8 as spec;
 ghost use Rattle.text.specs.Step.{dueOf, faultOf, restAt, characterAt};
+ghost use Rattle.text.specs.Window.{dueAfter, goesOn, beginsOne, followed, FollowedTo, SoundFrom};
 
 // A character that was begun.
 fn tail(more: u8, low: u8, high: u8) -> Next
@@ -127,6 +130,93 @@ fn character(s: &[u8], i: usize) -> Rest
             Due::Tail { more, low, high } => rest(s, i + 1, more, low, high),
         },
     }
+}
+
+// Whether the three bytes before a byte ask for a further byte of their character.
+fn is_due(r: u8, q: u8, p: u8) -> bool
+    ensures { λ x. ⌜ x ≡ dueAfter r q p ⌝ }
+{
+    (p >= 0xc2) | (q >= 0xe0) | (r >= 0xf0)
+}
+
+// Whether a byte goes on with a character that a byte began.
+fn goes_on(p: u8, b: u8) -> bool
+    ensures { λ x. ⌜ x ≡ goesOn p b ⌝ }
+{
+    (b >= 0x80)
+        & (b <= 0xbf)
+        & !((p == 0xe0) & (b < 0xa0))
+        & !((p == 0xed) & (b > 0x9f))
+        & !((p == 0xf0) & (b < 0x90))
+        & !((p == 0xf4) & (b > 0x8f))
+}
+
+// Whether a byte begins a character of a value.
+fn begins(b: u8) -> bool
+    ensures { λ x. ⌜ x ≡ beginsOne b ⌝ }
+{
+    (b >= 0x20) & (b != 0x7f) & ((b < 0x80) | (b >= 0xc2)) & (b <= 0xf4)
+}
+
+// Whether a byte may follow the three before it. There is no branch in it, so that sixteen bytes are asked at once.
+fn follows(r: u8, q: u8, p: u8, b: u8) -> bool
+    ensures { λ x. ⌜ x ≡ followed r q p b ⌝ }
+{
+    let due = is_due(r, q, p);
+    (due & goes_on(p, b)) | (!due & begins(b))
+}
+// Whether each of sixteen bytes, behind the three at a place, may follow those before it.
+fn sound_16(s: &[u8], i: usize) -> bool
+    requires { ⌜ i + 19 ≤ length (now s) ⌝ }
+    ensures { λ r. ⌜ (r ≡ true → FollowedTo (now (s .entry)) i (i + 16)) ⌝ }
+{
+    let mut sound = true;
+    let mut j: usize = 0;
+    while j < 16 {
+        let k = i + j;
+        sound = sound & follows(s[k], s[k + 1], s[k + 2], s[k + 3]);
+        j += 1;
+    }
+    sound
+}
+
+// Whether all bytes behind the three at a place may follow, and no character is left unfinished. The last sixteen may be asked twice.
+fn sound_rest(s: &[u8], at: usize) -> bool
+    requires { ⌜ at + 19 ≤ length (now s) ⌝ }
+    ensures { λ r. ⌜ (r ≡ true → SoundFrom (now (s .entry)) at) ⌝ }
+{
+    let mut k = at;
+    while 19 <= s.len() - k {
+        if sound_16(s, k) {
+            k += 16;
+        } else {
+            return false;
+        }
+    }
+    if sound_16(s, s.len() - 19) {
+        return !is_due(s[s.len() - 3], s[s.len() - 2], s[s.len() - 1]);
+    }
+    false
+}
+
+// Whether the bytes from a place on are surely a value's text: a fast way for long ones. It promises nothing where it says no.
+pub fn is_surely_value(s: &[u8], from: usize) -> bool
+    ensures { λ r. ⌜ (r ≡ true → spec.textFault valueByte Due.Start (drop from (now (s .entry))) ≡ none) ⌝ }
+{
+    let i = classes::plain_end(s, from);
+    if s.len() <= i {
+        return true;
+    }
+    if s.len() - i < 16 {
+        return false;
+    }
+    if i < 3 {
+        return false;
+    }
+    if is_due(s[i - 3], s[i - 2], s[i - 1]) {
+        return false;
+    }
+    sound_rest(s, i - 3)
 }
 
 // The first byte after which no ending makes a text, or the length where the text is only unfinished.

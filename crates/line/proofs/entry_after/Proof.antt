@@ -31,28 +31,36 @@ returns : tie.Need-returns
 unfolding entryAfter
 returns c = rw (← c .before .before .span-end .ensures, ← c .before .byte-at .ensures, ne-eqb _ _ (c .if1 .taken))
 
-add-t17 : tie.Need-add-t17
-add-t17 c =
-    let m = c .before in
-    let f = m .before .before in
-    let v = f .before .before in
-    let a = v .before .before .before .before .before .args in
-    omega (arith, rw (← f .scan .ensures, m .n .given .1) at (fault-lent valueByte (a .s .now) (v .span-end2 .result)))
-
 returns-2 : tie.Need-returns-2
 unfolding entryAfter
 returns-2 c =
-    let f = c .before .before in
-    let v = f .before .before in
+    let v = c .before .before in
     let b = v .before .before in
     let e = b .before in
-    rw (← e .span-end .ensures, ← b .byte-at .ensures, eq-eqb _ _ (v .before .if1 .left), ← v .span-end2 .ensures, ← tail-lent (v .span-end2 .result) (e .before .before .args .s .now), ← f .scan .ensures, c .enum-told .given .1)
+    rw (← e .span-end .ensures, ← b .byte-at .ensures, eq-eqb _ _ (v .before .if1 .left), ← v .span-end2 .ensures, c .before .is-surely-value .ensures (c .if2 .taken))
+
+add-t18 : tie.Need-add-t18
+add-t18 c =
+    let m = c .before in
+    let f = m .before .before in
+    let v = f .before .before .before .before in
+    let a = v .before .before .before .before .before .args in
+    omega (arith, rw (← f .scan .ensures, m .n .given .1) at (fault-lent valueByte (a .s .now) (v .span-end2 .result)))
 
 returns-3 : tie.Need-returns-3
 unfolding entryAfter
 returns-3 c =
+    let f = c .before .before in
+    let v = f .before .before .before .before in
+    let b = v .before .before in
+    let e = b .before in
+    rw (← e .span-end .ensures, ← b .byte-at .ensures, eq-eqb _ _ (v .before .if1 .left), ← v .span-end2 .ensures, ← tail-lent (v .span-end2 .result) (e .before .before .args .s .now), ← f .scan .ensures, c .enum-told .given .1)
+
+returns-4 : tie.Need-returns-4
+unfolding entryAfter
+returns-4 c =
     let f = c .before .before .before in
-    let v = f .before .before in
+    let v = f .before .before .before .before in
     let b = v .before .before in
     let e = b .before in
     rw (← e .span-end .ensures, ← b .byte-at .ensures, eq-eqb _ _ (v .before .if1 .left), ← v .span-end2 .ensures, ← tail-lent (v .span-end2 .result) (e .before .before .args .s .now), ← f .scan .ensures, c .before .n .given .1)
@@ -66,12 +74,14 @@ entry-after-spec =
     returns
     (λ c. omega (arith, sign-inside c))
     (λ c κs. search needs)
-    value-inside
-    value-inside
+    (λ c κs. search needs)
+    returns-2
+    (λ c. value-inside (c .before .before))
+    (λ c. value-inside (c .before .before))
     (λ c. search needs)
     (λ c κs. search needs)
     (λ c. search needs)
     (λ c. search needs)
-    add-t17
-    returns-2
-    returns-3)
+    add-t18
+    returns-3
+    returns-4)
