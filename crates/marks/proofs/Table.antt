@@ -11,7 +11,7 @@ use lib.Dec.{eqb}
 use lib.ListN.{length, getD, set, length-set}
 use lib.Seq.{getD-set-same, getD-set-other}
 use Rattle.base.proofs.Tests.{by-test, and-both}
-use Rattle.marks.specs.Marks.{hashStep, hashFrom, hashOf, rehash, wordOf, bitsOf, hasBits, withBits, marked, withMark}
+use Rattle.marks.specs.Marks.{hashStep, nameHash, hashOf, rehash, wordOf, bitsOf, hasBits, withBits, marked, withMark}
 
 -- ---- in a word
 
@@ -110,7 +110,7 @@ module _ (m : List ℕ) (tag : ℕ) (x : List ℕ) where
             absurd (false≢true (sym q ∙ rw (kept h (b .0), kept (rehash h) (b .1))))
 
 -- a name's mark, from its two hashes
-pub marked-by : (m : List ℕ) (tag : ℕ) (x : List ℕ) {m₁ m₂ : List ℕ} {h h₁ g : ℕ} {t : Bool} → h₁ ≡ hashFrom x 2166136261
+pub marked-by : (m : List ℕ) (tag : ℕ) (x : List ℕ) {m₁ m₂ : List ℕ} {h h₁ g : ℕ} {t : Bool} → h₁ ≡ nameHash x
     → h ≡ hashStep 2246822519 h₁ (tag % 65536) → g ≡ rehash h → t ≡ (hasBits m h && hasBits m g) → m₁ ≡ withBits m h → m₂ ≡ withBits m₁ g
     → (t ≡ marked m tag x) × (m₂ ≡ withMark m tag x)
 unfolding hashOf marked withMark

@@ -15,17 +15,25 @@ hashStep k h w = bitXor ((h % 4294967296 + w) % 4294967296 * k) (h / 4294967296)
 abbrev pub hashWord : ℕ → ℕ → ℕ
 hashWord h w = hashStep 2654435769 h w
 
--- the hash of bytes that follow others with the hash h, four at a time
-unfoldable pub hashFrom : List ℕ → ℕ → ℕ
-hashFrom [] h = h
-hashFrom (a ∷ []) h = hashWord h a
-hashFrom (a ∷ b ∷ []) h = hashWord h (a + 256 * b)
-hashFrom (a ∷ b ∷ c ∷ []) h = hashWord h (a + 256 * (b + 256 * c))
-hashFrom (a ∷ b ∷ c ∷ d ∷ s) h = hashFrom s (hashWord h (a + 256 * (b + 256 * (c + 256 * d))))
+-- four bytes from a place on, as a number; 0 for those past the end
+abbrev pub wordAt : List ℕ → ℕ → ℕ
+wordAt x i = getD x i 0 + 256 * (getD x (i + 1) 0 + 256 * (getD x (i + 2) 0 + 256 * getD x (i + 3) 0))
+
+-- The hash of bytes that follow others with the hash h: four at a time, and at the end a last word, for those that are left.
+unfoldable pub hashFrom : ℕ → List ℕ → ℕ → ℕ
+hashFrom last [] h = hashWord h last
+hashFrom last (a ∷ []) h = hashWord h last
+hashFrom last (a ∷ b ∷ []) h = hashWord h last
+hashFrom last (a ∷ b ∷ c ∷ []) h = hashWord h last
+hashFrom last (a ∷ b ∷ c ∷ d ∷ s) h = hashFrom last s (hashWord h (a + 256 * (b + 256 * (c + 256 * d))))
+
+-- the hash of a name; its last word is its last four bytes, some of them perhaps once more
+unfoldable pub nameHash : List ℕ → ℕ
+nameHash x = hashFrom (wordAt x (length x - 4)) x 2166136261
 
 -- the hash of a name under a number
 unfoldable pub hashOf : ℕ → List ℕ → ℕ
-hashOf tag x = hashStep 2246822519 (hashFrom x 2166136261) (tag % 65536)
+hashOf tag x = hashStep 2246822519 (nameHash x) (tag % 65536)
 
 -- a second hash, from the first
 abbrev pub rehash : ℕ → ℕ

@@ -1,8 +1,8 @@
 // A table of marks for names, in words of 64 bits: a name without its mark was surely not marked.
 ghost use mathlib.Core.Path.{_≡_};
 ghost use mathlib.Core.Bool.{_&&_};
-ghost use Prim.Native.Nat.{_+_, _*_, _%_, _≤_, _<_};
-ghost use lib.ListN.{length, getD, drop};
+ghost use Prim.Native.Nat.{_+_, _-_, _%_, _≤_, _<_};
+ghost use lib.ListN.{length, getD};
 ghost use Rattle.marks.specs.Marks as spec;
 
 fn wide(b: u8) -> u64
@@ -14,10 +14,29 @@ fn wide(b: u8) -> u64
 // The four bytes at a place, as a number.
 fn four(x: &[u8], i: usize) -> u64
     requires { ⌜ i + 4 ≤ length (now x) ⌝ }
-    ensures { λ r. ⌜ (r ≡ getD (now (x .entry)) i 0 + 256 * (getD (now (x .entry)) (i + 1) 0 + 256 * (getD (now (x .entry)) (i + 2) 0 + 256 * getD (now (x .entry)) (i + 3) 0)))
-        × (r < 4294967296) ⌝ }
+    ensures { λ r. ⌜ (r ≡ spec.wordAt (now (x .entry)) i) × (r < 4294967296) ⌝ }
 {
     wide(x[i]) + 256 * (wide(x[i + 1]) + 256 * (wide(x[i + 2]) + 256 * wide(x[i + 3])))
+}
+
+// The byte at a place, 0 past the end.
+fn byte(x: &[u8], i: usize) -> u64
+    ensures { λ r. ⌜ (r ≡ getD (now (x .entry)) i 0) × (r < 256) ⌝ }
+{
+    if i < x.len() {
+        return wide(x[i]);
+    }
+    0
+}
+
+// The last four bytes, or all where there are fewer.
+fn last(x: &[u8]) -> u64
+    ensures { λ r. ⌜ (r ≡ spec.wordAt (now (x .entry)) (length (now (x .entry)) - 4)) × (r < 4294967296) ⌝ }
+{
+    if 4 <= x.len() {
+        return four(x, x.len() - 4);
+    }
+    byte(x, 0) + 256 * (byte(x, 1) + 256 * (byte(x, 2) + 256 * byte(x, 3)))
 }
 
 // A hash and four bytes more.
@@ -28,30 +47,9 @@ fn hash_word(h: u64, w: u64) -> u64
     (h % 4294967296 + w) % 4294967296 * 2654435769 ^ h / 4294967296
 }
 
-// The last bytes of a name, fewer than four.
-fn tail(x: &[u8], i: usize, h: u64) -> u64
-    requires { ⌜ (i ≤ length (now x)) × (length (now x) < i + 4) ⌝ }
-    ensures { λ r. ⌜ r ≡ spec.hashFrom (drop i (now (x .entry))) h ⌝ }
-{
-    let n = x.len() - i;
-    if n == 0 {
-        return h;
-    }
-    if n == 1 {
-        return hash_word(h, wide(x[i]));
-    }
-    if n == 2 {
-        return hash_word(h, wide(x[i]) + 256 * wide(x[i + 1]));
-    }
-    hash_word(
-        h,
-        wide(x[i]) + 256 * (wide(x[i + 1]) + 256 * wide(x[i + 2])),
-    )
-}
-
 // The hash of a name: every byte enters.
 fn hash(x: &[u8]) -> u64
-    ensures { λ r. ⌜ r ≡ spec.hashFrom (now (x .entry)) 2166136261 ⌝ }
+    ensures { λ r. ⌜ r ≡ spec.nameHash (now (x .entry)) ⌝ }
 {
     let mut h: u64 = 2166136261;
     let mut i: usize = 0;
@@ -59,7 +57,7 @@ fn hash(x: &[u8]) -> u64
         h = hash_word(h, four(x, i));
         i += 4;
     }
-    tail(x, i, h)
+    hash_word(h, last(x))
 }
 
 // A hash mixed with the number of a group.

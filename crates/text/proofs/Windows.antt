@@ -5,11 +5,12 @@ use native.Mathlib.Omega.{arith}
 use mathlib.Core.Bool.{Bool, true, false, not, _&&_, _||_, false≢true}
 use mathlib.Core.Option.{Option, none, some}
 use mathlib.Core.List.{List, [], _∷_}
-use lib.ListN.{length, drop, getD}
-use lib.Seq.{drop-drop}
+use lib.ListN.{length, take, drop, getD, length-drop}
+use lib.Seq.{drop-drop, take-all}
 use lib.Dec.{eqb, leb, ltb}
 use borrow.Author.Tests.{leb-true, leb-false, ltb-true, ltb-false, eqb-true, eqb-false, le-leb, lt-leb, lt-ltb, le-ltb, ne-eqb, eq-eqb}
-use Rattle.base.specs.Lists.{span}
+use Rattle.base.specs.Lists.{span, all}
+use Rattle.base.proofs.Span.{span-last}
 use Rattle.base.proofs.Scan.{here, done}
 use Rattle.base.proofs.Tests.{no, by-test, and-both}
 use Rattle.text.specs.Class.{within, valueByte}
@@ -299,19 +300,33 @@ followed-none s i k e j l h = absurd (omega arith)
 pub followed-more : (s : List ℕ) (i k : ℕ) → FollowedTo s i k → followedAt s k ≡ true → FollowedTo s i (k + 1)
 followed-more s i k f e j l h = by-test (ltb j k) (λ t. f j l (ltb-true j k t)) (λ n. let o = ltb-false j k n in let q : j ≡ k = omega arith in rw q e)
 
--- plain bytes to the end
-pub plain-sound : (s : List ℕ) (from i : ℕ) → i ≡ from + span valueByte (drop from s) → length s ≤ i → textFault valueByte Start (drop from s) ≡ none
-unfolding textFault
-plain-sound s from i e h =
-    let n : ℕ = span valueByte (drop from s) in
-    sym (skip-fault Value (drop from s)) ∙ rw (drop-drop, ← e, done s i h)
+-- no due byte is asked, where less is looked at
+pub sound-less : (s : List ℕ) (a b : ℕ) → a ≤ b → SoundFrom s a → SoundFrom s b
+sound-less s a b h w = record { all-follow = λ k l m. w .all-follow k (omega arith) m; none-due = w .none-due }
 
--- plain bytes, and then bytes that may follow
-pub rest-sound : (s : List ℕ) (from i : ℕ) → i ≡ from + span valueByte (drop from s) → 3 ≤ i → i ≤ length s
-    → dueAfter (getD s (i - 3) 0) (getD s (i - 2) 0) (getD s (i - 1) 0) ≡ false → SoundFrom s (i - 3) → textFault valueByte Start (drop from s) ≡ none
-rest-sound s from i e h l d w =
-    let a : i - 3 + 1 ≡ i - 2 = omega arith in
-    let b : i - 3 + 2 ≡ i - 1 = omega arith in
-    let c : i - 3 + 3 ≡ i = omega arith in
-    let q : textFault valueByte Start (drop (i - 3 + 3) s) ≡ none = followed-sound s (i - 3) w (omega arith) (rw (a, b) d) in
-    sym (skip-fault Value (drop from s)) ∙ rw (drop-drop, ← e, ← c, q)
+-- plain bytes in front change nothing
+pub plain-front : (n : ℕ) (s : List ℕ) → all valueByte (take n s) ≡ true → textFault valueByte Start (drop n s) ≡ none → textFault valueByte Start s ≡ none
+unfolding all
+plain-front zero s e f = f
+plain-front (suc n) [] e f = f
+plain-front (suc n) (b ∷ s) e f =
+    let q = and-both (valueByte b) (all valueByte (take n s)) e in
+    rw (fault-cons valueByte Start b s, step-plain valueByte b (q .0) (q .0), plain-front n s (q .1) f)
+
+-- plain bytes to the end, as the last sixteen show
+pub plain-last : (s : List ℕ) (k : ℕ) → 16 ≤ length s → k ≤ length s → length s ≤ k + 16 → all valueByte (take 16 (drop (length s - 16) s)) ≡ true → textFault valueByte Start (drop k s) ≡ none
+unfolding textFault
+plain-last s k h l m e =
+    let d = length-drop (length s - 16) s in
+    let t : take 16 (drop (length s - 16) s) ≡ drop (length s - 16) s = take-all 16 (drop (length s - 16) s) (omega arith) in
+    let q : length s ≡ k + span valueByte (drop k s) = span-last valueByte s (length s - 16) k (omega arith) l (ap (all valueByte) (sym t) ∙ e) in
+    sym (skip-fault Value (drop k s)) ∙ rw (drop-drop, ← q, done s (length s) (omega arith))
+
+-- bytes that may follow from a place on
+pub rest-sound : (s : List ℕ) (k : ℕ) → 3 ≤ k → k ≤ length s → dueAfter (getD s (k - 3) 0) (getD s (k - 2) 0) (getD s (k - 1) 0) ≡ false → SoundFrom s (k - 3)
+    → textFault valueByte Start (drop k s) ≡ none
+rest-sound s k h l d w =
+    let a : k - 3 + 1 ≡ k - 2 = omega arith in
+    let b : k - 3 + 2 ≡ k - 1 = omega arith in
+    let c : k - 3 + 3 ≡ k = omega arith in
+    rw c at (followed-sound s (k - 3) w (omega arith) (rw (a, b) d))

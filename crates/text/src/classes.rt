@@ -141,7 +141,7 @@ pub fn span_end(s: &[u8], from: usize, k: Class) -> usize
 }
 
 // Whether sixteen bytes are all from 0x20 to 0x7E. The loop has no way out, so that it becomes one comparison of sixteen bytes.
-fn plain_16(s: &[u8], i: usize) -> bool
+pub fn plain_16(s: &[u8], i: usize) -> bool
     requires { ⌜ i + 16 ≤ length (now s) ⌝ }
     ensures { λ r. ⌜ r ≡ all spec.valueByte (take 16 (drop i (now (s .entry)))) ⌝ }
 {

@@ -199,24 +199,47 @@ fn sound_rest(s: &[u8], at: usize) -> bool
     false
 }
 
-// Whether the bytes from a place on are surely a value's text: a fast way for long ones. It promises nothing where it says no.
+// Whether the bytes from a place on surely are a value's text, by the three bytes before each. It promises nothing where it says no.
+fn sound_from(s: &[u8], k: usize) -> bool
+    requires { ⌜ k ≤ length (now s) ⌝ }
+    ensures { λ r. ⌜ (r ≡ true → spec.textFault valueByte Due.Start (drop k (now (s .entry))) ≡ none) ⌝ }
+{
+    if s.len() < 19 {
+        return false;
+    }
+    if k < 3 {
+        return false;
+    }
+    if is_due(s[k - 3], s[k - 2], s[k - 1]) {
+        return false;
+    }
+    if s.len() - k < 16 {
+        return sound_rest(s, s.len() - 19);
+    }
+    sound_rest(s, k - 3)
+}
+
+// The same with ASCII bytes passed first: the fast way through all but short lines.
 pub fn is_surely_value(s: &[u8], from: usize) -> bool
     ensures { λ r. ⌜ (r ≡ true → spec.textFault valueByte Due.Start (drop from (now (s .entry))) ≡ none) ⌝ }
 {
-    let i = classes::plain_end(s, from);
-    if s.len() <= i {
+    if s.len() <= from {
         return true;
     }
-    if s.len() - i < 16 {
-        return false;
+    let mut k = from;
+    while 16 <= s.len() - k {
+        if classes::plain_16(s, k) {
+            k += 16;
+        } else {
+            return sound_from(s, k);
+        }
     }
-    if i < 3 {
-        return false;
+    if 16 <= s.len() {
+        if classes::plain_16(s, s.len() - 16) {
+            return true;
+        }
     }
-    if is_due(s[i - 3], s[i - 2], s[i - 1]) {
-        return false;
-    }
-    sound_rest(s, i - 3)
+    sound_from(s, k)
 }
 
 // The first byte after which no ending makes a text, or the length where the text is only unfinished.

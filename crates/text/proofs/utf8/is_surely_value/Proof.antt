@@ -1,45 +1,67 @@
+use borrow.Author.Needs.{needs}
 -- `utf8::is_surely_value` meets its contract: plain bytes, and then bytes that may follow. Assumes nothing.
 use native.Mathlib.Omega.{arith}
-use mathlib.Core.Path.{sym, _∙_}
-use mathlib.Core.Bool.{false≢true}
-use Rattle.text.proofs.Windows.{plain-sound, rest-sound}
-use borrow.Author.Needs.{needs}
+use mathlib.Core.Path.{_≡_, sym, _∙_}
+use mathlib.Core.Option.{none}
+use Prim.Native.Nat.{_-_, _≤_}
+use lib.ListN.{length, drop}
+use lib.Seq.{drop-drop}
+use Rattle.base.proofs.Scan.{done}
+use Rattle.text.specs.Class.{valueByte}
+use Rattle.text.specs.Utf8.{textFault}
+use Rattle.text.specs.declared.Due.the-variants.{Start}
+use Rattle.text.proofs.Windows.{plain-front, plain-last}
 use Rattle.text.proofs.utf8.is_surely_value.Statement.{statement}
 use Rattle.text.proofs.utf8.is_surely_value.Tie as tie
 
-returns : tie.Need-returns
-returns c = λ e. let a = c .before .before .before .args in plain-sound (a .s .now) (a .from) (c .before .plain-end .result) (c .before .plain-end .ensures) (c .if1 .taken)
+abbrev Inv-loop : tie.InvT-loop
+Inv-loop s from k₀ k = (k ≤ length s) × (textFault valueByte Start (drop k s) ≡ none → textFault valueByte Start (drop from s) ≡ none)
 
-returns-2 : tie.Need-returns-2
-returns-2 c = λ e. absurd (false≢true e)
+abbrev μ-loop : tie.MeasureT-loop
+μ-loop s from k₀ k = length s - k
 
-returns-3 : tie.Need-returns-3
-returns-3 c = λ e. absurd (false≢true e)
+returns : tie.Need-returns Inv-loop μ-loop
+unfolding textFault
+returns c = λ e. let a = c .before .before .args in rw (done (a .s .now) (a .from) (c .if1 .taken))
 
-returns-4 : tie.Need-returns-4
-returns-4 c = λ e. absurd (false≢true e)
+loop-holds : tie.Need-loop-holds Inv-loop μ-loop
+loop-holds c = (omega arith, λ e. e)
 
-returns-5 : tie.Need-returns-5
-returns-5 c =
-    let a = c .before .before .before .before .before .before .before .before .before .before .before .args in
-    let i = c .before .before .before .before .before .before .before .before .before .plain-end in
-    λ e. rest-sound (a .s .now) (a .from) (i .result) (i .ensures) (omega arith) (omega arith) (sym (c .before .before .is-due .ensures) ∙ c .before .if4 .left) (c .sound-rest .ensures e)
+loop-again : tie.Need-loop-again Inv-loop μ-loop
+loop-again c =
+    let l = c .before .before .before .loop in
+    let a = c .before .before .before .before .before .before .args in
+    (omega arith, λ e. l .inv .1 (plain-front 16 (drop (l .k) (a .s .now)) (sym (c .before .plain-16 .ensures) ∙ c .if2 .taken) (rw (drop-drop 16 (l .k) (a .s .now)) e)))
+
+returns-2 : tie.Need-returns-2 Inv-loop μ-loop
+returns-2 c = λ e. c .before .before .before .before .loop .inv .1 (c .sound-from .ensures e)
+
+returns-3 : tie.Need-returns-3 Inv-loop μ-loop
+returns-3 c =
+    let l = c .before .before .before .before .loop in
+    let a = c .before .before .before .before .before .before .before .args in
+    λ e. l .inv .1 (plain-last (a .s .now) (l .k) (c .before .before .if3 .taken) (l .inv .0) (omega arith) (sym (c .before .plain-162 .ensures) ∙ c .if4 .taken))
+
+returns-4 : tie.Need-returns-4 Inv-loop μ-loop
+returns-4 c = λ e. c .before .before .before .loop .inv .1 (c .sound-from2 .ensures e)
 
 pub is-surely-value-spec : {M : Type 1} → statement M
 is-surely-value-spec =
     tie.close
     (tie.spec
-    (λ c κs. search needs)
+    Inv-loop
+    μ-loop
     returns
+    loop-holds
     (λ c. search needs)
+    (λ c κs. search needs)
+    (λ c. search needs)
+    (λ c. search needs)
+    loop-again
+    (λ c κs. search needs)
     returns-2
+    (λ c. search needs)
+    (λ c κs. search needs)
     returns-3
-    (λ c. search needs)
-    (λ c. search needs)
-    (λ c. search needs)
-    (λ c. search needs)
-    (λ c. search needs)
     (λ c κs. search needs)
-    returns-4
-    (λ c κs. search needs)
-    returns-5)
+    returns-4)
