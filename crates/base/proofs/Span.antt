@@ -1,6 +1,6 @@
 -- How far the bytes of a class reach at the front of a list. Assumes nothing.
 use mathlib.Core.Path.{_≡_, refl, sym, ap, _∙_}
-use Prim.Native.Nat.{ℕ, zero, suc, _+_, _-_, _≤_, _<_}
+use Prim.Native.Nat.{ℕ, zero, suc, suc-le-suc, _+_, _-_, _≤_, _<_}
 use native.Mathlib.Numerals.{add-one}
 use native.Mathlib.Omega.{arith}
 use mathlib.Core.Bool.{Bool, true, false, _&&_}
@@ -11,7 +11,7 @@ use borrow.Author.Tests.{eqb-true}
 use lib.Dec.{eqb, eqb·zero-suc, eqb·suc-zero, eqb·suc-suc}
 use Rattle.base.specs.Choice.{pick}
 use Rattle.base.specs.Lists.{span, all}
-use Rattle.base.proofs.Tests.{and-both}
+use Rattle.base.proofs.Tests.{no, and-both}
 use Rattle.base.proofs.Scan.{here, done}
 
 pub span-le : (p : ℕ → Bool) (s : List ℕ) → span p s ≤ length s
@@ -133,6 +133,17 @@ span-skip p (suc n) [] h e = absurd (omega arith)
 span-skip p (suc n) (b ∷ s) h e =
     let q = and-both (p b) (all p (take n s)) e in
     rw (q .0) (omega (arith, span-skip p n s (omega arith) (q .1)))
+
+-- where they are not, it ends among them
+pub span-short : (p : ℕ → Bool) (n : ℕ) (s : List ℕ) → all p (take n s) ≡ false → span p s < n
+unfolding span all
+span-short p zero s e = no (cc)
+span-short p (suc n) [] e = no (cc)
+span-short p (suc n) (b ∷ s) e = go (p b) e (span-short p n s)
+  where
+    go : (t : Bool) → (t && all p (take n s)) ≡ false → (all p (take n s) ≡ false → span p s < n) → pick t (suc (span p s)) 0 < suc n
+    go true f more = suc-le-suc (more f)
+    go false f more = omega arith
 
 all-drop : (p : ℕ → Bool) (n : ℕ) (s : List ℕ) → all p s ≡ true → all p (drop n s) ≡ true
 unfolding all

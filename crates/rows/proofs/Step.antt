@@ -11,7 +11,7 @@ use lib.Dec.{eqb, ltb}
 use borrow.Author.Tests.{eq-eqb, ne-eqb, eqb-true, ltb-true, ltb-false}
 use Rattle.base.specs.Choice.{pick}
 use Rattle.base.specs.Lists.{part, before, joined, span, all}
-use Rattle.base.proofs.Span.{span-skip}
+use Rattle.base.proofs.Span.{span-skip, span-short}
 use Rattle.base.proofs.Scan.{here, done}
 use Rattle.base.proofs.Lists.{length-part}
 use Rattle.base.proofs.Tests.{by-test}
@@ -63,6 +63,10 @@ line-skip n i s h e =
     ∙ ap (λ (m : ℕ). n + m) (ap (span noLF) (drop-drop n i s) ∙ sym (line-span (drop (i + n) s)))
 
 -- it has no LF
+-- an LF among n bytes ends the line there
+pub line-near : (n i : ℕ) (s : List ℕ) → all noLF (take n (drop i s)) ≡ false → lineLength (drop i s) < n
+line-near n i s e = rw (line-span (drop i s)) (span-short noLF n (drop i s) e)
+
 first-clean : (s : List ℕ) → Clean (take (lineLength s) s)
 unfolding lineLength
 first-clean [] = tt

@@ -3,7 +3,7 @@ use line::Line;
 use line::Named;
 ghost use mathlib.Core.Path.{_≡_};
 ghost use mathlib.Core.Bool.{true};
-ghost use Prim.Native.Nat.{_+_, _≤_};
+ghost use Prim.Native.Nat.{_+_, _≤_, _<_};
 ghost use lib.ListN.{length, take, drop};
 ghost use Rattle.base.specs.Lists as lists;
 ghost use Rattle.line.specs.Name.{byteAt, readName};
@@ -56,6 +56,18 @@ fn near_end(s: &[u8], from: usize) -> usize
     i
 }
 
+// The next LF, where there is one.
+fn next_lf(s: &[u8], from: usize) -> usize
+    requires { ⌜ from + lineLength (drop from (now s)) < length (now s) ⌝ }
+    ensures { λ r. ⌜ r ≡ from + lineLength (drop from (now (s .entry))) ⌝ }
+{
+    let mut i = from;
+    while s[i] != b'\n' {
+        i += 1;
+    }
+    i
+}
+
 // Where the line that begins at a place ends: at its LF, or at the end. Sixteen bytes at a time where there are so many.
 pub fn line_end(s: &[u8], from: usize) -> usize
     ensures { λ r. ⌜ r ≡ from + lineLength (drop from (now (s .entry))) ⌝ }
@@ -68,7 +80,7 @@ pub fn line_end(s: &[u8], from: usize) -> usize
         if clear(s, i) {
             i += 16;
         } else {
-            return near_end(s, i);
+            return next_lf(s, i);
         }
     }
     i
