@@ -1,0 +1,74 @@
+-- What the functions of this crate answer, by the definitions of the four calls. Assumes nothing.
+use Prim.Native.Nat.{ℕ, _+_}
+use mathlib.Core.List.{List}
+use lib.ListN.{length, take}
+use Rattle.base.specs.Over.{over}
+use Rattle.fault.specs.declared.Fault.the-variants.{Damaged, NoRoom, JournalFull}
+use Rattle.fault.specs.Answer.{Answer, given, refused, _>>=_, need, then}
+use Rattle.record.specs.Record.{recordBytes}
+use Rattle.wellformed.specs.Check.{check}
+use Rattle.wellformed.specs.WellFormed.{wellFormed}
+use Rattle.splice.specs.Edit.{Edit, spliced, stands, bufferWith}
+use Rattle.journal.specs.Journal.{editRecord, editLength}
+use Rattle.edit.specs.Calls.{State, content, lengthsFit, fileFits, recordFits}
+use Rattle.edit.specs.declared.Edited.{Edited}
+use Rattle.edit.specs.declared.Edited.the-variants as edited
+use Rattle.edit.specs.declared.Replayed.{Replayed}
+use Rattle.edit.specs.declared.Replayed.the-variants as replay
+
+-- the three numbers after a call
+pub record Numbers : Type 0 where
+  pub size : ℕ
+  pub used : ℕ
+  pub standing : ℕ
+
+-- what is lent
+abbrev pub lent : List ℕ → ℕ → List ℕ → ℕ → ℕ → State
+lent file size journal used standing = record { file = file; size = size; journal = journal; used = used; standing = standing }
+
+-- what an answer says
+abbrev pub answered : Edited → Answer Numbers
+answered (edited.Done size used standing) = given (record { size = size; used = used; standing = standing })
+answered (edited.Refused f) = refused f
+
+-- what a call tells in numbers
+abbrev pub told : Answer State → Answer Numbers
+told a = then (λ s. record { size = s .size; used = s .used; standing = s .standing }) a
+
+-- lengths, then the file's own faults
+unfoldable pub readied : State → Answer (Unit {0})
+readied s = do
+  _ ← need (lengthsFit s) Damaged
+  check (content s)
+
+-- the file after an edit from the journal, in a buffer of so many bytes
+unfoldable pub replayedIn : ℕ → List ℕ → Edit → Answer (List ℕ)
+replayedIn room file e = do
+  _ ← need (stands e file) Damaged
+  _ ← need (fileFits room (spliced e file)) NoRoom
+  _ ← need (wellFormed (spliced e file)) Damaged
+  given (spliced e file)
+
+-- the length of that file
+abbrev pub sized : Replayed → Answer ℕ
+sized (replay.Size n) = given n
+sized (replay.Refused f) = refused f
+
+-- the buffer of a file that became another, if it did
+abbrev pub became : List ℕ → ℕ → Answer (List ℕ) → List ℕ
+became buffer size (given file) = bufferWith buffer size file
+became buffer size (refused f) = buffer
+
+-- set and remove, once the edit is known
+unfoldable pub applied : State → Answer Edit → Answer State
+applied s a = do
+  e ← a
+  _ ← need (fileFits (length (s .file)) (spliced e (content s))) NoRoom
+  _ ← need (recordFits (length (s .journal)) (s .standing) e) JournalFull
+  given (record {
+    file = bufferWith (s .file) (s .size) (spliced e (content s));
+    size = length (spliced e (content s));
+    journal = over (s .journal) (s .standing) (recordBytes (editRecord e));
+    used = s .standing + editLength e;
+    standing = s .standing + editLength e;
+  })
