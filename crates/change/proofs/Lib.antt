@@ -3,3 +3,4 @@ pub mod LineEdits
 pub mod LineValues
 pub mod Accepted
 pub mod Kept
+pub mod Passing

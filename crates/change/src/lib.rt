@@ -1,1 +1,126 @@
-// What a set or a remove changes.
+// What a set or a remove changes in a file, and the new bytes.
+use fault::Fault;
+use line::Line;
+ghost use mathlib.Core.Path.{_≡_};
+ghost use mathlib.Core.Bool.{true, false, _&&_};
+ghost use Prim.Native.Nat.{ℕ, _+_, _≤_};
+ghost use mathlib.Core.List.{List};
+ghost use lib.ListN.{length};
+ghost use lib.Dec.{ltb};
+ghost use Rattle.base.specs.Choice.{pick};
+ghost use Rattle.base.specs.Lists.{same, any, last};
+ghost use Rattle.line.specs.Line.{readLine};
+ghost use Rattle.rows.specs.Rows.{groupAfter, readRows};
+ghost use Rattle.rows.specs.Title as title;
+ghost use Rattle.change.specs.Change as spec;
+ghost use Rattle.change.specs.Target as target;
+ghost use Rattle.change.specs.declared.Target.the-variants as targets;
+
+// What changes.
+pub enum Target {
+    // The value between two places is replaced.
+    Value { from: usize, to: usize },
+    // An entry comes in at a place, its LF after it, or before it.
+    Entry { at: usize, after: bool },
+    // The row between two places goes, with an LF.
+    Line { from: usize, to: usize },
+    Refused(Fault),
+}
+
+// Whether the group after a line is this one, when it is known of the group before.
+fn in_group(l: &[u8], group: &[u8], inside: bool) -> bool
+    ensures { λ r. ⌜ ((g : List ℕ) → inside ≡ same (now (group .entry)) g → r ≡ same (now (group .entry)) (groupAfter g (now (l .entry)) (readLine (now (l .entry))))) ⌝ }
+{
+    if line::byte_at(l, 0) != b'[' {
+        return inside;
+    }
+    match line::read_line(l) {
+        Line::Header { end } => rows::same(group, &l[1..end]),
+        Line::Blank => inside,
+        Line::Comment => inside,
+        Line::Entry {
+            key: _,
+            name: _,
+            value: _,
+        } => inside,
+        Line::Bad(_) => inside,
+    }
+}
+
+// Whether a line in the group asked for is its header or one of its entries.
+fn is_of_group(l: &[u8], inside: bool) -> bool
+    ensures { λ r. ⌜ r ≡ (inside && target.named (readLine (now (l .entry)))) ⌝ }
+{
+    if inside {
+        return match line::read_line(l) {
+            Line::Blank => false,
+            Line::Comment => false,
+            Line::Header { end: _ } => true,
+            Line::Entry {
+                key: _,
+                name: _,
+                value: _,
+            } => true,
+            Line::Bad(_) => false,
+        };
+    }
+    false
+}
+
+// The place behind a row, by the end of its line.
+fn behind(file: &[u8], end: usize) -> Target
+    requires { ⌜ end ≤ length (now file) ⌝ }
+    ensures { λ r. ⌜ r ≡ pick (ltb end (length (now (file .entry)))) (targets.Entry (end + 1) true) (targets.Entry end false) ⌝ }
+{
+    if end < file.len() {
+        return Target::Entry {
+            at: end + 1,
+            after: true,
+        };
+    }
+    Target::Entry {
+        at: end,
+        after: false,
+    }
+}
+
+// The place behind the group's last entry, or its header; 8 for no such group.
+fn group_end(file: &[u8], group: &[u8]) -> Target
+    ensures { λ r. ⌜ r ≡ target.behind (last (λ r. spec.ofGroup (now (group .entry)) (title.title r)) (readRows (now (file .entry)))) ⌝ }
+{
+    let mut p: usize = 0;
+    let mut inside = rows::same(group, b"");
+    let mut t = Target::Refused(Fault::Missing);
+    while p < file.len() {
+        let e = rows::line_end(file, p);
+        let l = &file[p..e];
+        inside = in_group(l, group, inside);
+        if is_of_group(l, inside) {
+            t = behind(file, e);
+            p = e + 1;
+        } else {
+            p = e + 1;
+        }
+    }
+    t
+}
+
+// Whether a line in the group asked for is an entry whose key is this one with a postfix.
+fn is_postfixed(l: &[u8], key: &[u8], inside: bool) -> bool
+    ensures { λ r. ⌜ r ≡ (inside && target.postfixIn (now (key .entry)) (now (l .entry)) (readLine (now (l .entry)))) ⌝ }
+{
+    if inside {
+        return match line::read_line(l) {
+            Line::Entry {
+                key: k,
+                name,
+                value: _,
+            } => rows::same(key, &l[..k]) & (k != name),
+            Line::Blank => false,
+            Line::Comment => false,
+            Line::Header { end: _ } => false,
+            Line::Bad(_) => false,
+        };
+    }
+    false
+}

@@ -1,0 +1,69 @@
+-- What the functions of this crate answer, by the definitions of set and remove. Assumes nothing.
+use Prim.Native.Nat.{ℕ, _+_, _≤_}
+use mathlib.Core.Path.{_≡_}
+use mathlib.Core.Bool.{Bool, true, false, not, _&&_}
+use mathlib.Core.Option.{Option}
+use mathlib.Core.List.{List, [], _++_}
+use lib.ListN.{length, take}
+use lib.Dec.{eqb}
+use Rattle.base.specs.Choice.{pick, maybe}
+use Rattle.base.specs.Lists.{ascii, same, part}
+use Rattle.fault.specs.declared.Fault.the-variants.{Missing}
+use Rattle.fault.specs.Answer.{Answer, given, refused}
+use Rattle.text.specs.Escape.{rawText}
+use Rattle.line.specs.declared.Line.{Line}
+use Rattle.line.specs.declared.Line.the-variants as line
+use Rattle.rows.specs.Rows.{Row, ended}
+use Rattle.splice.specs.Edit.{Edit}
+use Rattle.change.specs.declared.Target.{Target}
+use Rattle.change.specs.declared.Target.the-variants.{Value, Entry, Line as Gone, Refused}
+
+-- an entry's bytes
+abbrev pub entryBytes : List ℕ → List ℕ → List ℕ
+entryBytes key text = key ++ ascii "=" ++ rawText text
+
+-- the new bytes: a value; an entry, with its LF after it or before it; none
+abbrev pub newBytes : List ℕ → List ℕ → Target → List ℕ
+newBytes key text (Value from to) = rawText text
+newBytes key text (Entry at after) = pick after (entryBytes key text ++ ascii "\n") (ascii "\n" ++ entryBytes key text)
+newBytes key text (Gone from to) = []
+newBytes key text (Refused f) = []
+
+-- the edit of a file, or the refusal
+abbrev pub editBy : List ℕ → List ℕ → List ℕ → Target → Answer Edit
+editBy file key text (Value from to) = given (record { place = from; old = part from to file; new = newBytes key text (Value from to) })
+editBy file key text (Entry at after) = given (record { place = at; old = []; new = newBytes key text (Entry at after) })
+editBy file key text (Gone from to) = given (record { place = from; old = part from to file; new = [] })
+editBy file key text (Refused f) = refused f
+
+-- the places lie in a file of this length, in their order
+abbrev pub Inside : ℕ → Target → Type 0
+Inside size (Value from to) = (from ≤ to) × (to ≤ size)
+Inside size (Entry at after) = at ≤ size
+Inside size (Gone from to) = (from ≤ to) × (to ≤ size)
+Inside size (Refused f) = Unit
+
+-- a target is a request's edit, whatever the text, and lies inside the file
+pub record Aims (file key : List ℕ) (edit : List ℕ → Answer Edit) (t : Target) : Type 0 where
+  pub is : (text : List ℕ) → editBy file key text t ≡ edit text
+  pub inside : Inside (length file) t
+
+-- an entry comes in behind a row
+abbrev pub behind : Option Row → Target
+behind o = maybe o (Refused Missing) (λ r. Entry (r .start + length (r .bytes)) (ended (r .bytes)))
+
+-- a line names something: a header or an entry
+abbrev pub named : Line → Bool
+named line.Blank = false
+named line.Comment = false
+named (line.Header end) = true
+named (line.Entry key name value) = true
+named (line.Bad n) = false
+
+-- a line is an entry whose key is this one with a postfix
+abbrev pub postfixIn : List ℕ → List ℕ → Line → Bool
+postfixIn key l line.Blank = false
+postfixIn key l line.Comment = false
+postfixIn key l (line.Header end) = false
+postfixIn key l (line.Entry k name value) = same key (take k l) && not (eqb k name)
+postfixIn key l (line.Bad n) = false
