@@ -4,3 +4,4 @@ pub mod LineValues
 pub mod Accepted
 pub mod Kept
 pub mod Passing
+pub mod Aiming

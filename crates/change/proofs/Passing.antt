@@ -41,7 +41,7 @@ of-group group g l (Entry key name value) = sym (and-true (same group g))
 of-group group g l (Bad n) = sym (and-false (same group g))
 
 -- two beginnings of a list are the same if they are as long
-fronts : (l : List ℕ) (m n : ℕ) → m ≤ length l → n ≤ length l → same (take m l) (take n l) ≡ eqb m n
+pub fronts : (l : List ℕ) (m n : ℕ) → m ≤ length l → n ≤ length l → same (take m l) (take n l) ≡ eqb m n
 fronts l m n h k =
     by-test (eqb m n)
     (λ t. rw (t, eqb-true m n t) (same-refl (take n l)))

@@ -1,8 +1,10 @@
 // What a set or a remove changes in a file, and the new bytes.
 use fault::Fault;
 use line::Line;
+use rows::Found;
+use text::Class;
 ghost use mathlib.Core.Path.{_≡_};
-ghost use mathlib.Core.Bool.{true, false, _&&_};
+ghost use mathlib.Core.Bool.{true, false, _&&_, _||_};
 ghost use Prim.Native.Nat.{ℕ, _+_, _≤_};
 ghost use mathlib.Core.List.{List};
 ghost use lib.ListN.{length};
@@ -12,6 +14,8 @@ ghost use Rattle.base.specs.Lists.{same, any, last};
 ghost use Rattle.line.specs.Line.{readLine};
 ghost use Rattle.rows.specs.Rows.{groupAfter, readRows};
 ghost use Rattle.rows.specs.Title as title;
+ghost use Rattle.rows.specs.Find.{noneBad};
+ghost use Rattle.wellformed.specs.Check.{plainOf};
 ghost use Rattle.change.specs.Change as spec;
 ghost use Rattle.change.specs.Target as target;
 ghost use Rattle.change.specs.declared.Target.the-variants as targets;
@@ -123,4 +127,42 @@ fn is_postfixed(l: &[u8], key: &[u8], inside: bool) -> bool
         };
     }
     false
+}
+
+// Whether a postfixed key of this plain key stands in the group.
+fn has_postfixed(file: &[u8], group: &[u8], key: &[u8]) -> bool
+    ensures { λ r. ⌜ r ≡ any (λ s. spec.postfixOf (now (group .entry)) (now (key .entry)) (title.title s)) (readRows (now (file .entry))) ⌝ }
+{
+    let mut p: usize = 0;
+    let mut inside = rows::same(group, b"");
+    while p < file.len() {
+        let e = rows::line_end(file, p);
+        let l = &file[p..e];
+        inside = in_group(l, group, inside);
+        if is_postfixed(l, key, inside) {
+            return true;
+        }
+        p = e + 1;
+    }
+    false
+}
+
+// Whether a key is plain, or its plain key stands in the group.
+fn has_plain(file: &[u8], group: &[u8], key: &[u8]) -> bool
+    requires { ⌜ noneBad (now file) ≡ true ⌝ }
+    ensures { λ r. ⌜ r ≡ (spec.isPlain (now (key .entry)) || title.has (readRows (now (file .entry))) (title.Key (now (group .entry)) (plainOf (now (key .entry))))) ⌝ }
+{
+    let n = text::classes::span_end(key, 0, Class::Key);
+    if n == key.len() {
+        return true;
+    }
+    match rows::find_key(file, group, &key[..n]) {
+        Found::Row {
+            line: _,
+            start: _,
+            end: _,
+            value: _,
+        } => true,
+        Found::Nothing => false,
+    }
 }
