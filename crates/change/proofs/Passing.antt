@@ -14,7 +14,6 @@ use Rattle.base.specs.Lists.{same, part, any, last}
 use Rattle.base.proofs.Lists.{length-part}
 use Rattle.base.proofs.Search.{any-append, last-append}
 use Rattle.base.proofs.Tests.{by-test, same-true, same-refl}
-use Rattle.fault.specs.declared.Fault.the-variants.{Missing}
 use Rattle.line.specs.Line.{readLine}
 use Rattle.line.specs.declared.Line.{Line}
 use Rattle.line.specs.declared.Line.the-variants.{Blank, Comment, Header, Entry, Bad}
@@ -26,9 +25,9 @@ use Rattle.rows.specs.Find.{lineLength}
 use Rattle.rows.proofs.Step.{rowAt, groupNext, start-le, end-le, length-line, line-at, title-at, row-step, Prefix, prefix-start, prefix-end, prefix-rest, prefix-read, prefix-next}
 use Rattle.wellformed.specs.Check.{plainOf}
 use Rattle.change.specs.Change.{isPlain, ofGroup, postfixOf}
-use Rattle.change.specs.Target.{behind, named, postfixIn}
-use Rattle.change.specs.declared.Target.{Target}
-use Rattle.change.specs.declared.Target.the-variants as target
+use Rattle.change.specs.Target.{slotOf, named, postfixIn}
+use Rattle.change.specs.declared.Slot.{Slot}
+use Rattle.change.specs.declared.Slot.the-variants.{At, Nowhere}
 
 -- ---- what a line is to a group
 
@@ -98,7 +97,7 @@ module _ {s group : List ℕ} {p : ℕ} {inside : Bool} (w : Passing s group p i
   last-next = rw (prefix-read (w .starts) h q, last-append (λ r. ofGroup group (title r)) (readRows (take p s)) (row ∷ []))
 
   -- where it ends, and whether its LF is there
-  row-ended : (t : Bool) → ltb e (length s) ≡ t → target.Entry (p + length (part p (e + 1) s)) (ended (part p (e + 1) s)) ≡ pick t (target.Entry (e + 1) true) (target.Entry e false)
+  row-ended : (t : Bool) → ltb e (length s) ≡ t → At (p + length (part p (e + 1) s)) (ended (part p (e + 1) s)) ≡ pick t (At (e + 1) true) (At e false)
   unfolding ended
   row-ended true t =
       let k = ltb-true e (length s) t in
@@ -114,20 +113,20 @@ module _ {s group : List ℕ} {p : ℕ} {inside : Bool} (w : Passing s group p i
 -- ---- the group's last row
 
 -- t is where an entry comes in behind the last row of the group before p
-pub record Ending (s group : List ℕ) (p : ℕ) (inside : Bool) (t : Target) : Type 0 where
+pub record Ending (s group : List ℕ) (p : ℕ) (inside : Bool) (t : Slot) : Type 0 where
   pub passing : Passing s group p inside
-  pub so-far : t ≡ behind (last (λ r. ofGroup group (title r)) (readRows (take p s)))
+  pub so-far : t ≡ slotOf (last (λ r. ofGroup group (title r)) (readRows (take p s)))
 
-pub ending-start : (s group : List ℕ) {inside : Bool} → inside ≡ same group [] → Ending s group 0 inside (target.Refused Missing)
+pub ending-start : (s group : List ℕ) {inside : Bool} → inside ≡ same group [] → Ending s group 0 inside Nowhere
 unfolding readRows rows rowsFrom last
 ending-start s group i = record { passing = passing-start s group i; so-far = refl }
 
-pub ending-end : {s group : List ℕ} {p : ℕ} {inside : Bool} {t : Target} → Ending s group p inside t → length s ≤ p → t ≡ behind (last (λ r. ofGroup group (title r)) (readRows s))
+pub ending-end : {s group : List ℕ} {p : ℕ} {inside : Bool} {t : Slot} → Ending s group p inside t → length s ≤ p → t ≡ slotOf (last (λ r. ofGroup group (title r)) (readRows s))
 ending-end w h = rw (prefix-end (w .passing .starts) h) (w .so-far)
 
-module _ {s group : List ℕ} {p : ℕ} {inside : Bool} {t : Target} (w : Ending s group p inside t) {e : ℕ} (h : p < length s) (q : e ≡ p + lineLength (drop p s)) {now : Bool} (i : (g : List ℕ) → inside ≡ same group g → now ≡ same group (groupAfter g (part p e s) (readLine (part p e s)))) where
+module _ {s group : List ℕ} {p : ℕ} {inside : Bool} {t : Slot} (w : Ending s group p inside t) {e : ℕ} (h : p < length s) (q : e ≡ p + lineLength (drop p s)) {now : Bool} (i : (g : List ℕ) → inside ≡ same group g → now ≡ same group (groupAfter g (part p e s) (readLine (part p e s)))) where
   -- the row is the group's
-  pub ending-row : (now && named (readLine (part p e s))) ≡ true → Ending s group (e + 1) now (pick (ltb e (length s)) (target.Entry (e + 1) true) (target.Entry e false))
+  pub ending-row : (now && named (readLine (part p e s))) ≡ true → Ending s group (e + 1) now (pick (ltb e (length s)) (At (e + 1) true) (At e false))
   ending-row f =
       record {
         passing = passing-next (w .passing) h q i;

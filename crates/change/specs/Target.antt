@@ -8,7 +8,6 @@ use lib.ListN.{length, take}
 use lib.Dec.{eqb}
 use Rattle.base.specs.Choice.{pick, maybe}
 use Rattle.base.specs.Lists.{ascii, same, part}
-use Rattle.fault.specs.declared.Fault.the-variants.{Missing}
 use Rattle.fault.specs.Answer.{Answer, given, refused}
 use Rattle.text.specs.Escape.{rawText}
 use Rattle.line.specs.declared.Line.{Line}
@@ -17,6 +16,8 @@ use Rattle.rows.specs.Rows.{Row, ended}
 use Rattle.splice.specs.Edit.{Edit}
 use Rattle.change.specs.declared.Target.{Target}
 use Rattle.change.specs.declared.Target.the-variants.{Value, Entry, Line as Gone, Refused}
+use Rattle.change.specs.declared.Slot.{Slot}
+use Rattle.change.specs.declared.Slot.the-variants.{At, Nowhere}
 
 -- an entry's bytes
 abbrev pub entryBytes : List ℕ → List ℕ → List ℕ
@@ -48,9 +49,9 @@ pub record Aims (file key : List ℕ) (edit : List ℕ → Answer Edit) (t : Tar
   pub is : (text : List ℕ) → editBy file key text t ≡ edit text
   pub inside : Inside (length file) t
 
--- an entry comes in behind a row
-abbrev pub behind : Option Row → Target
-behind o = maybe o (Refused Missing) (λ r. Entry (r .start + length (r .bytes)) (ended (r .bytes)))
+-- where an entry comes in behind a row
+abbrev pub slotOf : Option Row → Slot
+slotOf o = maybe o Nowhere (λ r. At (r .start + length (r .bytes)) (ended (r .bytes)))
 
 -- a line names something: a header or an entry
 abbrev pub named : Line → Bool

@@ -12,13 +12,14 @@ ghost use lib.Dec.{ltb};
 ghost use Rattle.base.specs.Choice.{pick};
 ghost use Rattle.base.specs.Lists.{same, any, last};
 ghost use Rattle.line.specs.Line.{readLine};
+ghost use Rattle.line.specs.Form.{groupForm, keyForm};
 ghost use Rattle.rows.specs.Rows.{groupAfter, readRows};
 ghost use Rattle.rows.specs.Title as title;
 ghost use Rattle.rows.specs.Find.{noneBad};
 ghost use Rattle.wellformed.specs.Check.{plainOf};
 ghost use Rattle.change.specs.Change as spec;
 ghost use Rattle.change.specs.Target as target;
-ghost use Rattle.change.specs.declared.Target.the-variants as targets;
+ghost use Rattle.change.specs.declared.Slot.the-variants as slot;
 
 // What changes.
 pub enum Target {
@@ -29,6 +30,12 @@ pub enum Target {
     // The row between two places goes, with an LF.
     Line { from: usize, to: usize },
     Refused(Fault),
+}
+
+// Where an entry comes in behind a group, its LF after it or before it; nowhere without the group.
+pub enum Slot {
+    At { place: usize, after: bool },
+    Nowhere,
 }
 
 // Whether the group after a line is this one, when it is known of the group before.
@@ -72,29 +79,29 @@ fn is_of_group(l: &[u8], inside: bool) -> bool
 }
 
 // The place behind a row, by the end of its line.
-fn behind(file: &[u8], end: usize) -> Target
+fn behind(file: &[u8], end: usize) -> Slot
     requires { ⌜ end ≤ length (now file) ⌝ }
-    ensures { λ r. ⌜ r ≡ pick (ltb end (length (now (file .entry)))) (targets.Entry (end + 1) true) (targets.Entry end false) ⌝ }
+    ensures { λ r. ⌜ r ≡ pick (ltb end (length (now (file .entry)))) (slot.At (end + 1) true) (slot.At end false) ⌝ }
 {
     if end < file.len() {
-        return Target::Entry {
-            at: end + 1,
+        return Slot::At {
+            place: end + 1,
             after: true,
         };
     }
-    Target::Entry {
-        at: end,
+    Slot::At {
+        place: end,
         after: false,
     }
 }
 
-// The place behind the group's last entry, or its header; 8 for no such group.
-fn group_end(file: &[u8], group: &[u8]) -> Target
-    ensures { λ r. ⌜ r ≡ target.behind (last (λ r. spec.ofGroup (now (group .entry)) (title.title r)) (readRows (now (file .entry)))) ⌝ }
+// The place behind the group's last entry, or its header.
+fn group_end(file: &[u8], group: &[u8]) -> Slot
+    ensures { λ r. ⌜ r ≡ target.slotOf (last (λ r. spec.ofGroup (now (group .entry)) (title.title r)) (readRows (now (file .entry)))) ⌝ }
 {
     let mut p: usize = 0;
     let mut inside = rows::same(group, b"");
-    let mut t = Target::Refused(Fault::Missing);
+    let mut t = Slot::Nowhere;
     while p < file.len() {
         let e = rows::line_end(file, p);
         let l = &file[p..e];
@@ -164,5 +171,59 @@ fn has_plain(file: &[u8], group: &[u8], key: &[u8]) -> bool
             value: _,
         } => true,
         Found::Nothing => false,
+    }
+}
+
+// What a set changes in a file without bad lines: 8, 6.
+pub fn find_set(file: &[u8], group: &[u8], key: &[u8]) -> Target
+    requires { ⌜ noneBad (now file) ≡ true ⌝ }
+    ensures { λ r. ⌜ target.Aims (now (file .entry)) (now (key .entry)) (spec.setEdit (readRows (now (file .entry))) (now (group .entry)) (now (key .entry))) r ⌝ }
+{
+    let Slot::At { place, after } = group_end(file, group) else {
+        return Target::Refused(Fault::Missing);
+    };
+    if has_plain(file, group, key) {
+        return match rows::find_key(file, group, key) {
+            Found::Row {
+                line: _,
+                start: _,
+                end,
+                value,
+            } => Target::Value {
+                from: value,
+                to: end,
+            },
+            Found::Nothing => Target::Entry { at: place, after },
+        };
+    }
+    Target::Refused(Fault::NoPlainKey { line: 0 })
+}
+
+// What a remove changes in a file without bad lines: 8, 17.
+pub fn find_remove(file: &[u8], group: &[u8], key: &[u8]) -> Target
+    requires { ⌜ (noneBad (now file) ≡ true) × ((groupForm (now group) && keyForm (now key)) ≡ true) ⌝ }
+    ensures { λ r. ⌜ target.Aims (now (file .entry)) (now (key .entry)) (λ _. spec.removeEdit (readRows (now (file .entry))) (now (group .entry)) (now (key .entry))) r ⌝ }
+{
+    let Found::Row {
+        line: _,
+        start,
+        end,
+        value: _,
+    } = rows::find_key(file, group, key)
+    else {
+        return Target::Refused(Fault::Missing);
+    };
+    if has_postfixed(file, group, key) {
+        return Target::Refused(Fault::PostfixesRemain);
+    }
+    if end < file.len() {
+        return Target::Line {
+            from: start,
+            to: end + 1,
+        };
+    }
+    Target::Line {
+        from: start - 1,
+        to: end,
     }
 }
