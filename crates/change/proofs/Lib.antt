@@ -5,3 +5,4 @@ pub mod Accepted
 pub mod Kept
 pub mod Passing
 pub mod Aiming
+pub mod Writing

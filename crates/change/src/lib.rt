@@ -5,18 +5,20 @@ use rows::Found;
 use text::Class;
 ghost use mathlib.Core.Path.{_≡_};
 ghost use mathlib.Core.Bool.{true, false, _&&_, _||_};
-ghost use Prim.Native.Nat.{ℕ, _+_, _≤_};
+ghost use Prim.Native.Nat.{ℕ, _+_, _≤_, min};
 ghost use mathlib.Core.List.{List};
 ghost use lib.ListN.{length};
 ghost use lib.Dec.{ltb};
 ghost use Rattle.base.specs.Choice.{pick};
 ghost use Rattle.base.specs.Lists.{same, any, last};
+ghost use Rattle.text.specs.Escape.{rawText};
 ghost use Rattle.line.specs.Line.{readLine};
 ghost use Rattle.line.specs.Form.{groupForm, keyForm};
 ghost use Rattle.rows.specs.Rows.{groupAfter, readRows};
 ghost use Rattle.rows.specs.Title as title;
 ghost use Rattle.rows.specs.Find.{noneBad};
 ghost use Rattle.wellformed.specs.Check.{plainOf};
+ghost use Rattle.choice.specs.Step.{Written};
 ghost use Rattle.change.specs.Change as spec;
 ghost use Rattle.change.specs.Target as target;
 ghost use Rattle.change.specs.declared.Slot.the-variants as slot;
@@ -226,4 +228,56 @@ pub fn find_remove(file: &[u8], group: &[u8], key: &[u8]) -> Target
         from: start - 1,
         to: end,
     }
+}
+
+// A length, or 32,769 for any longer.
+fn capped(n: usize) -> usize
+    ensures { λ r. ⌜ r ≡ min n 32769 ⌝ }
+{
+    if n < 32769 {
+        return n;
+    }
+    32769
+}
+
+// How many bytes are new; 32,769 for more than a file has.
+pub fn new_length(key: &[u8], text: &[u8], t: Target) -> usize
+    ensures { λ r. ⌜ r ≡ min (length (target.newBytes (now (key .entry)) (now (text .entry)) t)) 32769 ⌝ }
+{
+    match t {
+        Target::Value { from: _, to: _ } => capped(text::escape::raw_length(text)),
+        Target::Entry { at: _, after: _ } => {
+            capped(capped(key.len()) + capped(text::escape::raw_length(text)) + 2)
+        }
+        Target::Line { from: _, to: _ } => 0,
+        Target::Refused(_) => 0,
+    }
+}
+
+// Bytes through the part of an output that starts at a place; the answer is where they end.
+fn put(out: &mut [u8], at: usize, x: &[u8]) -> usize
+    requires { ⌜ at + length (now x) ≤ length (now out) ⌝ }
+    ensures { λ r. ⌜ Written (now (out .entry)) at (now (x .entry)) r (now (out .exit)) ⌝ }
+{
+    bytes::copy(x, &mut out[at..]);
+    at + x.len()
+}
+
+// The same of the raw value of a text.
+fn put_raw(out: &mut [u8], at: usize, text: &[u8]) -> usize
+    requires { ⌜ at + length (rawText (now text)) ≤ length (now out) ⌝ }
+    ensures { λ r. ⌜ Written (now (out .entry)) at (rawText (now (text .entry))) r (now (out .exit)) ⌝ }
+{
+    let n = text::escape::write_raw(text, &mut out[at..]);
+    at + n
+}
+
+// The same of an entry.
+fn put_entry(out: &mut [u8], at: usize, key: &[u8], text: &[u8]) -> usize
+    requires { ⌜ at + length (target.entryBytes (now key) (now text)) ≤ length (now out) ⌝ }
+    ensures { λ r. ⌜ Written (now (out .entry)) at (target.entryBytes (now (key .entry)) (now (text .entry))) r (now (out .exit)) ⌝ }
+{
+    let sign = put(out, at, key);
+    let from = put(out, sign, b"=");
+    put_raw(out, from, text)
 }
