@@ -1,12 +1,11 @@
 -- The new bytes: how many they are, and that they are written one after another. Assumes nothing.
-use mathlib.Core.Path.{_≡_, refl, ap, _∙_}
-use Prim.Native.Nat.{ℕ, suc, _+_, _≤_, _<_, min}
-use native.Mathlib.Numerals.{add-one}
+use mathlib.Core.Path.{_≡_, sym, ap}
+use Prim.Native.Nat.{ℕ, _+_}
+use native.Mathlib.Nat.{add-zero}
 use native.Mathlib.Omega.{arith}
 use mathlib.Core.Bool.{Bool, true, false}
-use mathlib.Core.List.{List, [], _∷_, _++_}
-use lib.ListN.{length, set, length-append}
-use lib.Seq.{set-split}
+use mathlib.Core.List.{List, []}
+use lib.ListN.{length, length-append, take-append-drop}
 use Rattle.base.specs.Over.{atFront}
 use Rattle.base.proofs.Tail.{lent, back}
 use Rattle.base.proofs.Over.{over-tail}
@@ -27,9 +26,9 @@ module _ (key text : List ℕ) where
 
 -- ---- written
 
--- one byte
-pub write-byte : (s : List ℕ) (i b : ℕ) → i < length s → Written s i (b ∷ []) (i + 1) (set s i b)
-write-byte s i b h = record { ends = refl; is = rw (add-one i) (set-split s i b h) }
+-- nothing
+pub write-none : (s : List ℕ) (at : ℕ) → Written s at [] at s
+write-none s at = record { ends = omega arith; is = rw (add-zero at) (sym (take-append-drop at s)) }
 
 -- x at the front of a tail that was lent
 pub write-lent : (s : List ℕ) (at : ℕ) (x : List ℕ) {n : ℕ} {y : List ℕ} → n ≡ length x → y ≡ atFront (lent at s) x → Written s at x (at + n) (back at s y)

@@ -23,10 +23,14 @@ use Rattle.change.specs.declared.Slot.the-variants.{At, Nowhere}
 abbrev pub entryBytes : List ℕ → List ℕ → List ℕ
 entryBytes key text = key ++ ascii "=" ++ rawText text
 
--- the new bytes: a value; an entry, with its LF after it or before it; none
+-- an entry with its LF, after it or before it
+abbrev pub withLF : Bool → List ℕ → List ℕ
+withLF after entry = pick after (entry ++ ascii "\n") (ascii "\n" ++ entry)
+
+-- the new bytes: a value, an entry or none
 abbrev pub newBytes : List ℕ → List ℕ → Target → List ℕ
 newBytes key text (Value from to) = rawText text
-newBytes key text (Entry at after) = pick after (entryBytes key text ++ ascii "\n") (ascii "\n" ++ entryBytes key text)
+newBytes key text (Entry at after) = withLF after (entryBytes key text)
 newBytes key text (Gone from to) = []
 newBytes key text (Refused f) = []
 

@@ -281,3 +281,29 @@ fn put_entry(out: &mut [u8], at: usize, key: &[u8], text: &[u8]) -> usize
     let from = put(out, sign, b"=");
     put_raw(out, from, text)
 }
+
+// The same of an entry with its LF, after it or before it.
+fn put_line(out: &mut [u8], at: usize, key: &[u8], text: &[u8], after: bool) -> usize
+    requires { ⌜ at + (length (target.entryBytes (now key) (now text)) + 1) ≤ length (now out) ⌝ }
+    ensures { λ r. ⌜ Written (now (out .entry)) at (target.withLF after (target.entryBytes (now (key .entry)) (now (text .entry)))) r (now (out .exit)) ⌝ }
+{
+    if after {
+        let end = put_entry(out, at, key, text);
+        return put(out, end, b"\n");
+    }
+    let from = put(out, at, b"\n");
+    put_entry(out, from, key, text)
+}
+
+// The new bytes through the part of an output that starts at a place; the answer is where they end.
+pub fn put_new(out: &mut [u8], at: usize, key: &[u8], text: &[u8], t: Target) -> usize
+    requires { ⌜ at + length (target.newBytes (now key) (now text) t) ≤ length (now out) ⌝ }
+    ensures { λ r. ⌜ Written (now (out .entry)) at (target.newBytes (now (key .entry)) (now (text .entry)) t) r (now (out .exit)) ⌝ }
+{
+    match t {
+        Target::Value { from: _, to: _ } => put_raw(out, at, text),
+        Target::Entry { at: _, after } => put_line(out, at, key, text, after),
+        Target::Line { from: _, to: _ } => at,
+        Target::Refused(_) => at,
+    }
+}
