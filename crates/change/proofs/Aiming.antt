@@ -2,7 +2,7 @@
 use mathlib.Core.Path.{_≡_, refl, sym, ap, _∙_}
 use Prim.Native.Nat.{ℕ, _+_, _-_, _≤_, _<_}
 use native.Mathlib.Omega.{arith}
-use mathlib.Core.Bool.{Bool, true, false, not, _&&_, _||_}
+use mathlib.Core.Bool.{Bool, true, false, _&&_, _||_}
 use mathlib.Core.Option.{Option, none, some}
 use mathlib.Core.List.{List, [], _∷_, _++_}
 use lib.ListN.{length, take, drop, length-append}
@@ -13,9 +13,7 @@ use Rattle.base.specs.Lists.{span, part, joined, any, last}
 use Rattle.base.proofs.Span.{span-le}
 use Rattle.base.proofs.Tests.{no}
 use Rattle.fault.specs.declared.Fault.the-variants.{NoPlainKey, Missing, PostfixesRemain}
-use Rattle.fault.specs.Answer.{given}
 use Rattle.text.specs.Class.{keyByte}
-use Rattle.text.specs.Escape.{rawText}
 use Rattle.line.specs.Form.{groupForm, keyForm}
 use Rattle.rows.specs.Rows.{Row, rows, lineOf, ended, readRows, rawValue}
 use Rattle.rows.specs.Title.{Key, title, sameTitle, findRow, has}
@@ -28,7 +26,7 @@ use Rattle.wellformed.proofs.Plain.{told-there, told-missing}
 use Rattle.entry.specs.Lookup.{valueEnds}
 use Rattle.splice.specs.Edit.{Edit}
 use Rattle.splice.proofs.Splits.{Splits, splits-old, splits-length}
-use Rattle.change.specs.Change.{isPlain, ofGroup, postfixOf, replacing, inserting, removing, setEdit, removeEdit}
+use Rattle.change.specs.Change.{isPlain, ofGroup, postfixOf, inserting, removing, setEdit, removeEdit}
 use Rattle.change.specs.Target.{Aims, slotOf}
 use Rattle.change.specs.declared.Target.{Target}
 use Rattle.change.specs.declared.Target.the-variants as target
@@ -37,6 +35,10 @@ use Rattle.change.proofs.Accepted.{LastRow, last-joined, full-ended, fi
 use Rattle.change.proofs.Passing.{fronts}
 
 -- ---- the plain key
+
+-- the key is plain, or its plain key is there
+abbrev plain : List ℕ → List ℕ → List ℕ → Bool
+plain file group key = isPlain key || has (readRows file) (Key group (plainOf key))
 
 -- n bytes of a key are its plain key
 module _ (key : List ℕ) {n : ℕ} (q : n ≡ 0 + span keyByte (drop 0 key)) where
@@ -48,20 +50,17 @@ module _ (key : List ℕ) {n : ℕ} (q : n ≡ 0 + span keyByte (drop 0 key)) wh
 
   plain-is : isPlain key ≡ eqb n (length key)
   unfolding plainOf
-  plain-is = rw (span-is) (rw (take-length key) at (fronts key n (length key) plain-le (omega arith)))
+  plain-is = rw span-is (rw (take-length key) at (fronts key n (length key) plain-le (omega arith)))
 
   pub plain-itself : n ≡ length key → isPlain key ≡ true
   plain-itself e = plain-is ∙ eq-eqb n (length key) e
 
   module _ (file group : List ℕ) (e : n ≡ length key → ⊥) where
-    abbrev known : Bool
-    known = isPlain key || has (readRows file) (Key group (plainOf key))
-
-    pub plain-there : {line start end value : ℕ} → found.Row line start end value ≡ toldOf (findRow (readRows file) (Key group (take n key))) → true ≡ known
+    pub plain-there : {line start end value : ℕ} → found.Row line start end value ≡ toldOf (findRow (readRows file) (Key group (take n key))) → true ≡ plain file group key
     unfolding plainOf
     plain-there f = rw (plain-is, ne-eqb n (length key) e, span-is) (sym (told-there (findRow (readRows file) (Key group (take n key))) f))
 
-    pub plain-missing : found.Nothing ≡ toldOf (findRow (readRows file) (Key group (take n key))) → false ≡ known
+    pub plain-missing : found.Nothing ≡ toldOf (findRow (readRows file) (Key group (take n key))) → false ≡ plain file group key
     unfolding plainOf
     plain-missing f = rw (plain-is, ne-eqb n (length key) e, span-is) (sym (told-missing (findRow (readRows file) (Key group (take n key))) f))
 
@@ -111,22 +110,19 @@ module _ (file group key : List ℕ) where
   abbrev ends : Option Row
   ends = last (λ r. ofGroup group (title r)) (readRows file)
 
-  abbrev plain : Bool
-  plain = isPlain key || has (readRows file) (Key group (plainOf key))
-
   abbrev entry : Option Row
   entry = findRow (readRows file) (Key group key)
 
   abbrev SetBy : Target → Type 0
   SetBy t = Aims file key (setEdit (readRows file) group key) t
 
-  value-by : (r s : Row) {n start end value : ℕ} → ends ≡ some s → true ≡ plain → entry ≡ some r → Told r n start end value → (value ≤ end) × (end ≤ length file)
+  value-by : (r s : Row) {n start end value : ℕ} → ends ≡ some s → true ≡ plain file group key → entry ≡ some r → Told r n start end value → (value ≤ end) × (end ≤ length file)
       → SetBy (target.Value value end)
   unfolding setEdit valueEnds rawValue
   value-by r s e p y t b =
       record { is = λ text. rw (e, ← p, y, t .value-is, t .end-is, value-stands file (found-row file (Key group key) r y)); inside = b }
 
-  entry-by : (s : Row) {at : ℕ} {after : Bool} → ends ≡ some s → at ≡ s .start + length (s .bytes) → after ≡ ended (s .bytes) → true ≡ plain → entry ≡ none
+  entry-by : (s : Row) {at : ℕ} {after : Bool} → ends ≡ some s → at ≡ s .start + length (s .bytes) → after ≡ ended (s .bytes) → true ≡ plain file group key → entry ≡ none
       → SetBy (target.Entry at after)
   unfolding setEdit inserting
   entry-by s e i j p y =
@@ -141,18 +137,18 @@ module _ (file group key : List ℕ) where
   set-no-group e = record { is = λ text. rw (slot-none ends e); inside = tt }
 
   module _ {at : ℕ} {after : Bool} (e : slot.At at after ≡ slotOf ends) where
-    pub set-no-plain : false ≡ plain → SetBy (target.Refused (NoPlainKey 0))
+    pub set-no-plain : false ≡ plain file group key → SetBy (target.Refused (NoPlainKey 0))
     unfolding setEdit
     set-no-plain p = record { is = λ text. rw (slot-row ends e .1, ← p); inside = tt }
 
-    pub set-value : true ≡ plain → {n start end value : ℕ} → found.Row n start end value ≡ toldOf entry → SetBy (target.Value value end)
+    pub set-value : true ≡ plain file group key → {n start end value : ℕ} → found.Row n start end value ≡ toldOf entry → SetBy (target.Value value end)
     set-value p {n} {start} {end} {value} y =
         let a = told-row entry n start end value (sym y) in
         let o = slot-row ends e in
         let b = told-bounds file (Key group key) n start end value (sym y) in
         value-by (a .0) (o .0) (o .1) p (a .1) (a .2) (b .1, b .2)
 
-    pub set-entry : true ≡ plain → found.Nothing ≡ toldOf entry → SetBy (target.Entry at after)
+    pub set-entry : true ≡ plain file group key → found.Nothing ≡ toldOf entry → SetBy (target.Entry at after)
     set-entry p y = let o = slot-row ends e in entry-by (o .0) (o .1) (o .2) (o .3) p (told-nothing entry (sym y))
 
 -- ---- a remove

@@ -2,9 +2,9 @@
 use mathlib.Core.Path.{_≡_, refl, sym, ap, _∙_}
 use Prim.Native.Nat.{ℕ, _+_, _-_, _≤_, _<_}
 use native.Mathlib.Omega.{arith}
-use mathlib.Core.Bool.{Bool, true, false, not, _&&_, _||_, and-true, and-false, and-assoc, or-true}
-use mathlib.Core.Option.{Option, none, some}
-use mathlib.Core.List.{List, [], _∷_, _++_}
+use mathlib.Core.Bool.{Bool, true, false, not, _&&_, and-true, and-false, and-assoc}
+use mathlib.Core.Option.{none, some}
+use mathlib.Core.List.{List, [], _∷_}
 use lib.ListN.{length, take, drop, length-take, length-drop}
 use lib.Seq.{take-take, length-take-le}
 use lib.Dec.{eqb, ltb}
@@ -22,9 +22,9 @@ use Rattle.line.proofs.Entries.{entry-key}
 use Rattle.rows.specs.Rows.{Row, rows, rowsFrom, readRows, groupAfter, ended}
 use Rattle.rows.specs.Title.{titleOf, title}
 use Rattle.rows.specs.Find.{lineLength}
-use Rattle.rows.proofs.Step.{rowAt, groupNext, start-le, end-le, length-line, line-at, title-at, row-step, Prefix, prefix-start, prefix-end, prefix-rest, prefix-read, prefix-next}
+use Rattle.rows.proofs.Step.{rowAt, groupNext, end-le, length-line, line-at, title-at, row-step, Prefix, prefix-start, prefix-end, prefix-rest, prefix-read, prefix-next}
 use Rattle.wellformed.specs.Check.{plainOf}
-use Rattle.change.specs.Change.{isPlain, ofGroup, postfixOf}
+use Rattle.change.specs.Change.{ofGroup, postfixOf}
 use Rattle.change.specs.Target.{slotOf, named, postfixIn}
 use Rattle.change.specs.declared.Slot.{Slot}
 use Rattle.change.specs.declared.Slot.the-variants.{At, Nowhere}

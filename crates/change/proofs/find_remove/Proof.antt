@@ -1,6 +1,7 @@
 -- `find_remove` meets its contract: what was found says which edit the definition has. Assumes nothing.
 use mathlib.Core.Path.{sym, _∙_}
 use borrow.Author.Needs.{needs}
+use native.Mathlib.Omega.{arith}
 use Rattle.change.proofs.Aiming.{remove-missing, remove-blocked, remove-row, last-start, remove-last}
 use Rattle.change.proofs.find_remove.Statement.{statement}
 use Rattle.change.proofs.find_remove.Tie as tie
@@ -34,7 +35,10 @@ sub-t10 c =
     let f = r .before .before in
     let s = f .before .before .before .before in
     let a = s .args in
-    last-start (a .file .now) (a .group .now) (a .key .now) (sym (r .start .given .1) ∙ f .find-key .ensures) (sym (c .before .if1 .left) ∙ p .has-postfixed .ensures) (c .if2 .left) (s .pre .1)
+    omega (
+      arith,
+      last-start (a .file .now) (a .group .now) (a .key .now) (sym (r .start .given .1) ∙ f .find-key .ensures) (sym (c .before .if1 .left) ∙ p .has-postfixed .ensures) (c .if2 .left) (s .pre .1),
+    )
 
 returns-4 : tie.Need-returns-4
 returns-4 c =
