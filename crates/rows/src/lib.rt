@@ -90,18 +90,15 @@ pub fn line_end(s: &[u8], from: usize) -> usize
 pub fn same(a: &[u8], b: &[u8]) -> bool
     ensures { λ r. ⌜ r ≡ lists.same (now (a .entry)) (now (b .entry)) ⌝ }
 {
+    if a.len() != b.len() {
+        return false;
+    }
     let mut i: usize = 0;
     while i < a.len() {
-        if b.len() <= i {
-            return false;
-        }
         if a[i] != b[i] {
             return false;
         }
         i += 1;
-    }
-    if i < b.len() {
-        return false;
     }
     true
 }

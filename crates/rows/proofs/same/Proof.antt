@@ -2,7 +2,9 @@
 use borrow.Author.Needs.{needs}
 use borrow.Author.Tests.{eq-eqb, ne-eqb}
 use Rattle.base.proofs.Scan.{here, done}
-use mathlib.Core.Path.{_≡_, refl}
+use Rattle.base.proofs.Tests.{by-test, same-true}
+use mathlib.Core.Path.{_≡_, refl, sym, ap}
+use native.Mathlib.Omega.{arith}
 use lib.ListN.{length, drop}
 use Prim.Native.Nat.{_-_}
 use Rattle.base.specs.Lists.{same}
@@ -16,39 +18,30 @@ abbrev μ-loop : tie.MeasureT-loop
 μ-loop a b i₀ i = length a - i
 
 returns : tie.Need-returns Inv-loop μ-loop
-unfolding same
 returns c =
-    let l = c .before .before in
-    let a = l .before .args in
-    rw (here (a .a .now) (l .loop .i) (search needs), done (a .b .now) (l .loop .i) (c .if1 .taken)) at (l .loop .inv)
+    let a = c .before .args in
+    by-test (same (a .a .now) (a .b .now)) (λ t. absurd (c .if1 .taken (ap length (same-true (a .a .now) (a .b .now) t)))) sym
 
 returns-2 : tie.Need-returns-2 Inv-loop μ-loop
 unfolding same
 returns-2 c =
-    let l = c .before .before .before .before .before in
-    let a = l .before .args in
+    let l = c .before .before .before .before in
+    let a = l .before .before .args in
     rw (here (a .a .now) (l .loop .i) (search needs), here (a .b .now) (l .loop .i) (search needs), ne-eqb _ _ (c .if2 .taken)) at (l .loop .inv)
 
 loop-again : tie.Need-loop-again Inv-loop μ-loop
 unfolding same
 loop-again c =
-    let l = c .before .before .before .before .before in
-    let a = l .before .args in
+    let l = c .before .before .before .before in
+    let a = l .before .before .args in
     rw (here (a .a .now) (l .loop .i) (search needs), here (a .b .now) (l .loop .i) (search needs), eq-eqb _ _ (c .if2 .left)) at (l .loop .inv)
 
 returns-3 : tie.Need-returns-3 Inv-loop μ-loop
 unfolding same
 returns-3 c =
-    let l = c .before .before in
-    let a = l .before .args in
-    rw (done (a .a .now) (l .loop .i) (c .before .loop-test .left), here (a .b .now) (l .loop .i) (search needs)) at (l .loop .inv)
-
-returns-4 : tie.Need-returns-4 Inv-loop μ-loop
-unfolding same
-returns-4 c =
-    let l = c .before .before in
-    let a = l .before .args in
-    rw (done (a .a .now) (l .loop .i) (c .before .loop-test .left), done (a .b .now) (l .loop .i) (c .if3 .left)) at (l .loop .inv)
+    let l = c .before in
+    let a = l .before .before .args in
+    rw (done (a .a .now) (l .loop .i) (c .loop-test .left), done (a .b .now) (l .loop .i) (search needs)) at (l .loop .inv)
 
 pub same-spec : {M : Type 1} → statement M
 same-spec =
@@ -56,13 +49,12 @@ same-spec =
     (tie.spec
     Inv-loop
     μ-loop
-    (λ c. refl)
     returns
+    (λ c. refl)
     (λ c. search needs)
     (λ c. search needs)
     returns-2
     (λ c. search needs)
     (λ c. search needs)
     loop-again
-    returns-3
-    returns-4)
+    returns-3)
