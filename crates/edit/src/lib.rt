@@ -1,7 +1,20 @@
 // Set, remove, undo and redo on two lent buffers and three numbers.
+use change::Target;
 use fault::Fault;
 use wellformed::Checked;
 ghost use mathlib.Core.Path.{_≡_};
+ghost use mathlib.Core.Bool.{true};
+ghost use Prim.Native.Nat.{_+_, _-_, _≤_};
+ghost use lib.ListN.{length, take};
+ghost use Rattle.base.specs.Lists.{part};
+ghost use Rattle.base.specs.Over.{over};
+ghost use Rattle.record.specs.Record.{recordBytes};
+ghost use Rattle.rows.specs.Find.{noneBad};
+ghost use Rattle.splice.specs.Edit.{replaced, bufferWith};
+ghost use Rattle.journal.specs.Journal.{editRecord};
+ghost use Rattle.change.specs.Change as request;
+ghost use Rattle.change.specs.Target as target;
+ghost use Rattle.edit.specs.Calls as calls;
 ghost use Rattle.wellformed.specs.Pass as pass;
 ghost use Rattle.edit.specs.Step as step;
 
@@ -38,4 +51,30 @@ fn ready(file: &[u8], size: usize, journal: &[u8], used: usize, standing: usize)
         return Checked::Refused(Fault::Damaged);
     }
     wellformed::check(&file[..size])
+}
+
+// The record of an edit is written behind what stands, and its new bytes, so many, go from there into the file.
+fn write(
+    file: &mut [u8],
+    size: usize,
+    journal: &mut [u8],
+    standing: usize,
+    place: usize,
+    old: usize,
+    key: &[u8],
+    text: &[u8],
+    t: Target,
+    n: usize,
+)
+    requires { ⌜ (size ≤ length (now file)) × (place + old ≤ size) × (n ≡ length (target.newBytes (now key) (now text) t))
+        × (size - old + n ≤ length (now file)) × (standing + (18 + old + n) ≤ length (now journal)) ⌝ }
+    ensures file { λ _. ⌜ now (file .exit) ≡ bufferWith (now (file .entry)) size (replaced place old (target.newBytes (now (key .entry)) (now (text .entry)) t) (take size (now (file .entry)))) ⌝ }
+    ensures journal { λ _. ⌜ now (journal .exit) ≡ over (now (journal .entry)) standing
+        (recordBytes (editRecord (record { place = place; old = part place (place + old) (now (file .entry)); new = target.newBytes (now (key .entry)) (now (text .entry)) t }))) ⌝ }
+{
+    let to = place + old;
+    journal::put_front(journal, standing, place, &file[place..to], n);
+    let from = standing + 18 + old;
+    let end = change::put_new(journal, from, key, text, t);
+    splice::replace(file, size, place, old, &journal[from..end]);
 }
