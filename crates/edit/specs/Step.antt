@@ -1,4 +1,5 @@
 -- What the functions of this crate answer, by the definitions of the four calls. Assumes nothing.
+use mathlib.Core.Path.{_≡_}
 use Prim.Native.Nat.{ℕ, _+_}
 use mathlib.Core.List.{List}
 use lib.ListN.{length, take}
@@ -10,7 +11,7 @@ use Rattle.wellformed.specs.Check.{check}
 use Rattle.wellformed.specs.WellFormed.{wellFormed}
 use Rattle.splice.specs.Edit.{Edit, spliced, stands, bufferWith}
 use Rattle.journal.specs.Journal.{editRecord, editLength}
-use Rattle.edit.specs.Calls.{State, content, lengthsFit, fileFits, recordFits}
+use Rattle.edit.specs.Calls.{State, content, lengthsFit, fileFits, recordFits, atExit}
 use Rattle.edit.specs.declared.Edited.{Edited}
 use Rattle.edit.specs.declared.Edited.the-variants as edited
 use Rattle.edit.specs.declared.Replayed.{Replayed}
@@ -72,3 +73,9 @@ applied s a = do
     used = s .standing + editLength e;
     standing = s .standing + editLength e;
   })
+
+-- a call that answers so and leaves these bytes in both buffers
+pub record Made (s : State) (a : Answer State) (r : Edited) (file journal : List ℕ) : Type 0 where
+  pub answer : answered r ≡ told a
+  pub file-is : file ≡ atExit s a .file
+  pub journal-is : journal ≡ atExit s a .journal

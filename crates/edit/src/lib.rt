@@ -8,6 +8,7 @@ ghost use Prim.Native.Nat.{_+_, _-_, _≤_};
 ghost use lib.ListN.{length, take};
 ghost use Rattle.base.specs.Lists.{part};
 ghost use Rattle.base.specs.Over.{over};
+ghost use Rattle.fault.specs.Answer.{given};
 ghost use Rattle.record.specs.Record.{recordBytes};
 ghost use Rattle.rows.specs.Find.{noneBad};
 ghost use Rattle.splice.specs.Edit.{replaced, bufferWith};
@@ -77,4 +78,45 @@ fn write(
     let from = standing + 18 + old;
     let end = change::put_new(journal, from, key, text, t);
     splice::replace(file, size, place, old, &journal[from..end]);
+}
+
+// An edit where both buffers have room for it: 11, then 13.
+fn make(
+    file: &mut [u8],
+    size: usize,
+    journal: &mut [u8],
+    standing: usize,
+    place: usize,
+    old: usize,
+    key: &[u8],
+    text: &[u8],
+    t: Target,
+) -> Edited
+    requires { ⌜ (size ≤ length (now file)) × (size ≤ 32768) × (standing ≤ 65536) × (place + old ≤ size) ⌝ }
+    ensures { λ r. ⌜ step.Made (step.lent (now (file .entry)) size (now (journal .entry)) 0 standing)
+        (step.applied (step.lent (now (file .entry)) size (now (journal .entry)) 0 standing)
+        (given (record { place = place; old = part place (place + old) (take size (now (file .entry))); new = target.newBytes (now (key .entry)) (now (text .entry)) t })))
+        r (now (file .exit)) (now (journal .exit)) ⌝ }
+{
+    let n = change::new_length(key, text, t);
+    let len = size - old + n;
+    if file.len() < len {
+        return Edited::Refused(Fault::NoRoom);
+    }
+    if 32768 < len {
+        return Edited::Refused(Fault::NoRoom);
+    }
+    let end = standing + (18 + old + n);
+    if journal.len() < end {
+        return Edited::Refused(Fault::JournalFull);
+    }
+    if 65536 < end {
+        return Edited::Refused(Fault::JournalFull);
+    }
+    write(file, size, journal, standing, place, old, key, text, t, n);
+    Edited::Done {
+        size: len,
+        used: end,
+        standing: end,
+    }
 }
