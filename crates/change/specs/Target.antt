@@ -53,6 +53,11 @@ pub record Aims (file key : List ℕ) (edit : List ℕ → Answer Edit) (t : Tar
   pub is : (text : List ℕ) → editBy file key text t ≡ edit text
   pub inside : Inside (length file) t
 
+-- a target is a request's edit or refusal with one text, and lies inside the file
+pub record Meets (file key text : List ℕ) (edit : Answer Edit) (t : Target) : Type 0 where
+  pub is : editBy file key text t ≡ edit
+  pub inside : Inside (length file) t
+
 -- where an entry comes in behind a row
 abbrev pub slotOf : Option Row → Slot
 slotOf o = maybe o Nowhere (λ r. At (r .start + length (r .bytes)) (ended (r .bytes)))

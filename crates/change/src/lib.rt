@@ -3,6 +3,8 @@ use fault::Fault;
 use line::Line;
 use rows::Found;
 use text::Class;
+use text::Content;
+use text::Scan;
 ghost use mathlib.Core.Path.{_≡_};
 ghost use mathlib.Core.Bool.{true, false, _&&_, _||_};
 ghost use Prim.Native.Nat.{ℕ, _+_, _≤_, min};
@@ -228,6 +230,35 @@ pub fn find_remove(file: &[u8], group: &[u8], key: &[u8]) -> Target
         from: start - 1,
         to: end,
     }
+}
+
+// What a set asks for in a file without bad lines: 7, 10, 8, 6.
+pub fn set_target(file: &[u8], group: &[u8], key: &[u8], text: &[u8]) -> Target
+    requires { ⌜ noneBad (now file) ≡ true ⌝ }
+    ensures { λ r. ⌜ target.Meets (now (file .entry)) (now (key .entry)) (now (text .entry)) (spec.editOf (now (file .entry)) (spec.Set (now (group .entry)) (now (key .entry)) (now (text .entry)))) r ⌝ }
+{
+    if line::form::is_group(group) {
+        if line::form::is_key(key) {
+            return match text::utf8::scan(text, Content::Text) {
+                Scan::Fault(_) => Target::Refused(Fault::UnfitText),
+                Scan::Sound => find_set(file, group, key),
+            };
+        }
+    }
+    Target::Refused(Fault::BadArgument)
+}
+
+// What a remove asks for in a file without bad lines: 7, 8, 17. Its new bytes are none, so any text will do.
+pub fn remove_target(file: &[u8], group: &[u8], key: &[u8], text: &[u8]) -> Target
+    requires { ⌜ noneBad (now file) ≡ true ⌝ }
+    ensures { λ r. ⌜ target.Meets (now (file .entry)) (now (key .entry)) (now (text .entry)) (spec.editOf (now (file .entry)) (spec.Remove (now (group .entry)) (now (key .entry)))) r ⌝ }
+{
+    if line::form::is_group(group) {
+        if line::form::is_key(key) {
+            return find_remove(file, group, key);
+        }
+    }
+    Target::Refused(Fault::BadArgument)
 }
 
 // A length, or 32,769 for any longer.
