@@ -18,13 +18,19 @@ use Rattle.record.proofs.Numbers.{length-number}
 use Rattle.record.proofs.Sizes.{length-head}
 use Rattle.fault.specs.declared.Fault.{Fault}
 use Rattle.fault.specs.declared.Fault.the-variants.{NoRoom, JournalFull}
-use Rattle.fault.specs.Answer.{given, refused}
+use Rattle.fault.specs.Answer.{Answer, given, refused, _>>=_, need}
+use Rattle.base.proofs.Tests.{no}
 use Rattle.splice.specs.Edit.{Edit, replaced, spliced, bufferWith}
-use Rattle.journal.specs.Journal.{editRecord, editLength}
+use Rattle.journal.specs.Journal.{Journal, editRecord, editLength}
 use Rattle.journal.specs.Walk.{editFront}
 use Rattle.journal.proofs.Front.{record-front}
-use Rattle.edit.specs.Calls.{State, content, fileFits, recordFits}
-use Rattle.edit.specs.Step.{applied, Made}
+use Rattle.change.specs.Change.{Request, editOf}
+use Rattle.change.specs.Target.{newBytes, editBy, Meets}
+use Rattle.change.specs.declared.Target.{Target}
+use Rattle.change.specs.declared.Target.the-variants.{Value, Entry, Line as Gone}
+use Rattle.edit.specs.Calls.{State, content, opened, fileFits, recordFits, request}
+use Rattle.edit.specs.Step.{lent, passed, applied, Made}
+use Rattle.edit.specs.declared.Edited.{Edited}
 use Rattle.edit.specs.declared.Edited.the-variants.{Done, Refused}
 
 -- ---- the record
@@ -128,3 +134,84 @@ module _ (s : State) (e : Edit) where
       all-made c d {n} {m} {file} {journal} u v x y =
           let q = made fits (fits-both (s .standing + editLength e) (length (s .journal)) 65536 c d) in
           record { answer = rw (q, u, v); file-is = rw q x; journal-is = rw q y }
+
+-- ---- a target's edit
+
+module _ (f key text : List ℕ) {t : Target} where
+  pub value-edit : {from to : ℕ} → t ≡ Value from to → from ≤ to
+      → given (record { place = from; old = part from (from + (to - from)) f; new = newBytes key text (Value from to) }) ≡ editBy f key text t
+  value-edit {from} {to} q h = let k : from + (to - from) ≡ to = omega arith in rw (q, k)
+
+  pub line-edit : {from to : ℕ} → t ≡ Gone from to → from ≤ to
+      → given (record { place = from; old = part from (from + (to - from)) f; new = newBytes key text (Gone from to) }) ≡ editBy f key text t
+  line-edit {from} {to} q h = let k : from + (to - from) ≡ to = omega arith in rw (q, k)
+
+  pub entry-edit : {at : ℕ} {after : Bool} → t ≡ Entry at after
+      → given (record { place = at; old = part at (at + 0) f; new = newBytes key text (Entry at after) }) ≡ editBy f key text t
+  entry-edit {at} q = let k : at + 0 - at ≡ 0 = omega arith in rw (q, k)
+
+-- ---- a request
+
+-- the bytes used before do not matter to what is told and left
+used-free : (s : State) (u : ℕ) (a : Answer Edit) {r : Edited} {file journal : List ℕ}
+    → Made (record { file = s .file; size = s .size; journal = s .journal; used = u; standing = s .standing })
+    (applied (record { file = s .file; size = s .size; journal = s .journal; used = u; standing = s .standing }) a) r file journal
+    → Made s (applied s a) r file journal
+unfolding applied
+used-free s u (refused f) m = record { answer = m .answer; file-is = m .file-is; journal-is = m .journal-is }
+used-free s u (given e) {r} {file} {journal} m = go (fileFits (length (s .file)) (spliced e (content s))) (recordFits (length (s .journal)) (s .standing) e) m
+  where
+    t : State
+    t = record { file = s .file; size = s .size; journal = s .journal; used = u; standing = s .standing }
+
+    done : State
+    done = record {
+      file = bufferWith (s .file) (s .size) (spliced e (content s));
+      size = length (spliced e (content s));
+      journal = over (s .journal) (s .standing) (recordBytes (editRecord e));
+      used = s .standing + editLength e;
+      standing = s .standing + editLength e;
+    }
+
+    go : (x y : Bool) → Made t (need x NoRoom >>= λ _. (need y JournalFull >>= λ _. given done)) r file journal
+        → Made s (need x NoRoom >>= λ _. (need y JournalFull >>= λ _. given done)) r file journal
+    go true true m = record { answer = m .answer; file-is = m .file-is; journal-is = m .journal-is }
+    go true false m = record { answer = m .answer; file-is = m .file-is; journal-is = m .journal-is }
+    go false y m = record { answer = m .answer; file-is = m .file-is; journal-is = m .journal-is }
+
+-- a request, once what is lent was opened
+request-by : (s : State) (q : Request) → request s q ≡ (opened s >>= λ _. applied s (editOf (content s) q))
+unfolding request applied
+request-by s q = go (opened s)
+  where
+    go : (o : Answer Journal)
+        → (o >>= λ _. (editOf (content s) q >>= λ e. (need (fileFits (length (s .file)) (spliced e (content s))) NoRoom
+        >>= λ _. (need (recordFits (length (s .journal)) (s .standing) e) JournalFull >>= λ _. given (record {
+          file = bufferWith (s .file) (s .size) (spliced e (content s));
+          size = length (spliced e (content s));
+          journal = over (s .journal) (s .standing) (recordBytes (editRecord e));
+          used = s .standing + editLength e;
+          standing = s .standing + editLength e;
+        })))))
+        ≡ (o >>= λ _. applied s (editOf (content s) q))
+    go (given j) = refl
+    go (refused f) = refl
+
+module _ (s : State) (q : Request) where
+  -- not opened: the same refusal, and nothing changes
+  pub not-opened : {f : Fault} → refused f ≡ passed (opened s) → Made s (request s q) (Refused f) (s .file) (s .journal)
+  not-opened {f} e = rw (request-by s q) (go (opened s) e)
+    where
+      go : (o : Answer Journal) → refused f ≡ passed o → Made s (o >>= λ _. applied s (editOf (content s) q)) (Refused f) (s .file) (s .journal)
+      go (given j) h = no (cc)
+      go (refused g) h = let w : f ≡ g = cc in rw w (record { answer = refl; file-is = refl; journal-is = refl })
+
+  -- opened: the target's edit is the request's
+  pub was-opened : given tt ≡ passed (opened s) → {key text : List ℕ} {t : Target} {r : Edited} {file journal : List ℕ} → Meets (content s) key text (editOf (content s) q) t
+      → Made (lent (s .file) (s .size) (s .journal) 0 (s .standing)) (applied (lent (s .file) (s .size) (s .journal) 0 (s .standing)) (editBy (content s) key text t)) r file journal
+      → Made s (request s q) r file journal
+  was-opened e {key} {text} {t} {r} {file} {journal} w m = rw (request-by s q) (go (opened s) e)
+    where
+      go : (o : Answer Journal) → given tt ≡ passed o → Made s (o >>= λ _. applied s (editOf (content s) q)) r file journal
+      go (given j) h = rw (← w .is) (used-free s 0 (editBy (content s) key text t) m)
+      go (refused g) h = no (cc)

@@ -36,6 +36,11 @@ answered (edited.Refused f) = refused f
 abbrev pub told : Answer State → Answer Numbers
 told a = then (λ s. record { size = s .size; used = s .used; standing = s .standing }) a
 
+-- an answer without its value
+abbrev pub passed : {A : Type 0} → Answer A → Answer (Unit {0})
+passed (given a) = given tt
+passed (refused f) = refused f
+
 -- lengths, then the file's own faults
 unfoldable pub readied : State → Answer (Unit {0})
 readied s = do

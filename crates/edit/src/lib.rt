@@ -120,3 +120,95 @@ fn make(
         standing: end,
     }
 }
+
+// The edit that a target asks for.
+fn apply(
+    file: &mut [u8],
+    size: usize,
+    journal: &mut [u8],
+    standing: usize,
+    key: &[u8],
+    text: &[u8],
+    t: Target,
+) -> Edited
+    requires { ⌜ (size ≤ length (now file)) × (size ≤ 32768) × (standing ≤ 65536) × target.Inside size t ⌝ }
+    ensures { λ r. ⌜ step.Made (step.lent (now (file .entry)) size (now (journal .entry)) 0 standing)
+        (step.applied (step.lent (now (file .entry)) size (now (journal .entry)) 0 standing)
+        (target.editBy (take size (now (file .entry))) (now (key .entry)) (now (text .entry)) t))
+        r (now (file .exit)) (now (journal .exit)) ⌝ }
+{
+    match t {
+        Target::Value { from, to } => {
+            make(file, size, journal, standing, from, to - from, key, text, t)
+        }
+        Target::Entry { at, after: _ } => {
+            make(file, size, journal, standing, at, 0, key, text, t)
+        }
+        Target::Line { from, to } => {
+            make(file, size, journal, standing, from, to - from, key, text, t)
+        }
+        Target::Refused(f) => Edited::Refused(f),
+    }
+}
+
+// What every set and remove asks first: lengths (14), the file's own faults (1 to 6), the journal (14).
+fn check_lent(file: &[u8], size: usize, journal: &[u8], used: usize, standing: usize) -> Checked
+    ensures { λ r. ⌜ pass.answered r ≡ step.passed (calls.opened (step.lent (now (file .entry)) size (now (journal .entry)) used standing)) ⌝ }
+{
+    match ready(file, size, journal, used, standing) {
+        Checked::Refused(f) => Checked::Refused(f),
+        Checked::Sound => {
+            if journal::sound(&journal[..used], standing) {
+                return Checked::Sound;
+            }
+            Checked::Refused(Fault::Damaged)
+        }
+    }
+}
+
+// A text for a key with its postfix in a group: replaced, or a new entry behind the group's last.
+pub fn set(
+    file: &mut [u8],
+    size: usize,
+    journal: &mut [u8],
+    used: usize,
+    standing: usize,
+    group: &[u8],
+    key: &[u8],
+    text: &[u8],
+) -> Edited
+    ensures { λ r. ⌜ step.Made (step.lent (now (file .entry)) size (now (journal .entry)) used standing)
+        (calls.request (step.lent (now (file .entry)) size (now (journal .entry)) used standing) (request.Set (now (group .entry)) (now (key .entry)) (now (text .entry))))
+        r (now (file .exit)) (now (journal .exit)) ⌝ }
+{
+    match check_lent(file, size, journal, used, standing) {
+        Checked::Refused(f) => Edited::Refused(f),
+        Checked::Sound => {
+            let t = change::set_target(&file[..size], group, key, text);
+            apply(file, size, journal, standing, key, text, t)
+        }
+    }
+}
+
+// The entry of a key with its postfix in a group goes with its line.
+pub fn remove(
+    file: &mut [u8],
+    size: usize,
+    journal: &mut [u8],
+    used: usize,
+    standing: usize,
+    group: &[u8],
+    key: &[u8],
+) -> Edited
+    ensures { λ r. ⌜ step.Made (step.lent (now (file .entry)) size (now (journal .entry)) used standing)
+        (calls.request (step.lent (now (file .entry)) size (now (journal .entry)) used standing) (request.Remove (now (group .entry)) (now (key .entry))))
+        r (now (file .exit)) (now (journal .exit)) ⌝ }
+{
+    match check_lent(file, size, journal, used, standing) {
+        Checked::Refused(f) => Edited::Refused(f),
+        Checked::Sound => {
+            let t = change::remove_target(&file[..size], group, key, key);
+            apply(file, size, journal, standing, key, key, t)
+        }
+    }
+}
