@@ -1,4 +1,6 @@
 // The C interface: one exported function for each public call. include/kveldrim.h documents it.
+mod edits; // edits.rt: the calls that edit
+
 use entry::Ends;
 use fault::Fault;
 use text::Written;

@@ -1,0 +1,24 @@
+-- `kveldrim_set` meets its contract: it is the call. Assumes nothing.
+use Rattle.change.specs.Change.{Set}
+use Rattle.edit.specs.Calls.{request}
+use Rattle.edit.specs.Step.{lent}
+use Rattle.kveldrim.proofs.Editing.{called}
+use borrow.Author.Needs.{needs}
+use Rattle.kveldrim.proofs.edits.kveldrim_set.Statement.{statement}
+use Rattle.kveldrim.proofs.edits.kveldrim_set.Tie as tie
+
+returns : tie.Need-returns
+returns c =
+    let a = c .before .before .before .before .before .before .before .before .before .before .before .before .before .before .before .before .before .before .before .before .args in
+    let s = lent (a .file .now) (a .size .now) (a .journal .now) (a .used .now) (a .standing .now) in
+    called s (request s (Set (a .group .now) (a .key .now) (a .text .now))) (c .before .before .before .before .before .before .before .before .before .set .ensures) (c .tell-edited .ensures)
+
+pub kveldrim-set-spec : {M : Type 1} → statement M
+kveldrim-set-spec =
+    tie.close
+    (tie.spec
+    (λ c κs. search needs)
+    (λ c κs. search needs)
+    (λ c. search needs)
+    (λ c. search needs)
+    returns)

@@ -1,0 +1,81 @@
+// The calls that edit. The three numbers go in and come out; a refusal leaves them and every lent byte.
+use edit::Edited;
+ghost use mathlib.Core.Path.{_≡_};
+ghost use Rattle.change.specs.Change.{Set, Remove};
+ghost use Rattle.edit.specs.Calls.{request};
+ghost use Rattle.edit.specs.Step.{lent, answered};
+ghost use Rattle.kveldrim.specs.Abi.{codeOf, placeIn, writtenIn, Called};
+
+// The answer of a call that edits.
+fn tell_edited(
+    e: Edited,
+    size: &mut u64,
+    used: &mut u64,
+    standing: &mut u64,
+    place: &mut u64,
+) -> u32
+    ensures { λ r. ⌜ (r ≡ codeOf (answered e)) × (now (place .exit) ≡ placeIn (answered e))
+        × (now (size .exit) ≡ writtenIn (λ n. n .size) (answered e) (now (size .entry)))
+        × (now (used .exit) ≡ writtenIn (λ n. n .used) (answered e) (now (used .entry)))
+        × (now (standing .exit) ≡ writtenIn (λ n. n .standing) (answered e) (now (standing .entry))) ⌝ }
+{
+    match e {
+        Edited::Done {
+            size: length,
+            used: u,
+            standing: n,
+        } => {
+            *place = 0;
+            *size = length as u64;
+            *used = u as u64;
+            *standing = n as u64;
+            0
+        }
+        Edited::Refused(f) => crate::refuse(f, place),
+    }
+}
+
+#[no_mangle]
+pub extern "C" fn kveldrim_set(
+    file: &mut [u8],
+    size: &mut u64,
+    journal: &mut [u8],
+    used: &mut u64,
+    standing: &mut u64,
+    group: &[u8],
+    key: &[u8],
+    text: &[u8],
+    place: &mut u64,
+) -> u32
+    ensures { λ r. ⌜ Called (lent (now (file .entry)) (now (size .entry)) (now (journal .entry)) (now (used .entry)) (now (standing .entry)))
+        (request (lent (now (file .entry)) (now (size .entry)) (now (journal .entry)) (now (used .entry)) (now (standing .entry))) (Set (now (group .entry)) (now (key .entry)) (now (text .entry))))
+        r (now (place .exit)) (now (size .exit)) (now (used .exit)) (now (standing .exit)) (now (file .exit)) (now (journal .exit)) ⌝ }
+{
+    let length = *size as usize;
+    let u = *used as usize;
+    let n = *standing as usize;
+    let e = edit::set(file, length, journal, u, n, group, key, text);
+    tell_edited(e, size, used, standing, place)
+}
+
+#[no_mangle]
+pub extern "C" fn kveldrim_remove(
+    file: &mut [u8],
+    size: &mut u64,
+    journal: &mut [u8],
+    used: &mut u64,
+    standing: &mut u64,
+    group: &[u8],
+    key: &[u8],
+    place: &mut u64,
+) -> u32
+    ensures { λ r. ⌜ Called (lent (now (file .entry)) (now (size .entry)) (now (journal .entry)) (now (used .entry)) (now (standing .entry)))
+        (request (lent (now (file .entry)) (now (size .entry)) (now (journal .entry)) (now (used .entry)) (now (standing .entry))) (Remove (now (group .entry)) (now (key .entry))))
+        r (now (place .exit)) (now (size .exit)) (now (used .exit)) (now (standing .exit)) (now (file .exit)) (now (journal .exit)) ⌝ }
+{
+    let length = *size as usize;
+    let u = *used as usize;
+    let n = *standing as usize;
+    let e = edit::remove(file, length, journal, u, n, group, key);
+    tell_edited(e, size, used, standing, place)
+}
