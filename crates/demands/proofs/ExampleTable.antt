@@ -17,7 +17,7 @@ use Rattle.wellformed.specs.Check.{titleFault, earliest, plainOf, noPlain, titl
 use Rattle.choice.specs.Locale.{stripped, plainLocale, candidates, firstKey, chosen}
 use Rattle.entry.specs.Lookup.{valueEnds, lookup}
 use Rattle.entry.specs.Choose.{choose}
-use Rattle.splice.specs.Edit.{spliced, bufferWith}
+use Rattle.splice.specs.Edit.{spliced, bufferWith, replaced}
 use Rattle.change.specs.Change.{inserting, setEdit, editOf}
 use Rattle.journal.specs.Journal.{editRecord, readEdits, partedAt, readJournal}
 use Rattle.edit.specs.Calls.{lengthsFit, opened, request}
@@ -29,6 +29,6 @@ unfolding same span any all first last keyByte groupByte blankByte valueByte tex
     marked parts emptyPart isLocale postfixAt readName entryAfter readEntry readHeader readLine groupForm plainForm keyForm localeForm
     rows lineOf rowsFrom readRows title sameTitle findRow titleFault earliest plainOf noPlain titledAs plainAll checkAs
     stripped plainLocale candidates firstKey chosen valueEnds lookup choose
-    littleEndian numberOf headBytes recordBytes cutAfter ended rawValue spliced bufferWith inserting setEdit editOf
+    littleEndian numberOf headBytes recordBytes cutAfter ended rawValue spliced replaced bufferWith inserting setEdit editOf
     editRecord readEdits partedAt readJournal lengthsFit opened request
 examples-hold = refl

@@ -1,2 +1,4 @@
 pub mod Opening
 pub mod Applying
+pub mod Replaying
+pub mod Turning

@@ -47,6 +47,10 @@ readied s = do
   _ ← need (lengthsFit s) Damaged
   check (content s)
 
+-- the edit by which some bytes at a place go and others come
+abbrev pub swap : ℕ → List ℕ → List ℕ → Edit
+swap place gone come = record { place = place; old = gone; new = come }
+
 -- the file after an edit from the journal, in a buffer of so many bytes
 unfoldable pub replayedIn : ℕ → List ℕ → Edit → Answer (List ℕ)
 replayedIn room file e = do
@@ -59,6 +63,10 @@ replayedIn room file e = do
 abbrev pub sized : Replayed → Answer ℕ
 sized (replay.Size n) = given n
 sized (replay.Refused f) = refused f
+
+-- the numbers that go with a file
+abbrev pub numbers : ℕ → ℕ → List ℕ → Numbers
+numbers used standing file = record { size = length file; used = used; standing = standing }
 
 -- the buffer of a file that became another, if it did
 abbrev pub became : List ℕ → ℕ → Answer (List ℕ) → List ℕ

@@ -1,6 +1,7 @@
 // Set, remove, undo and redo on two lent buffers and three numbers.
 use change::Target;
 use fault::Fault;
+use journal::Next;
 use wellformed::Checked;
 ghost use mathlib.Core.Path.{_≡_};
 ghost use mathlib.Core.Bool.{true};
@@ -8,9 +9,9 @@ ghost use Prim.Native.Nat.{_+_, _-_, _≤_};
 ghost use lib.ListN.{length, take};
 ghost use Rattle.base.specs.Lists.{part};
 ghost use Rattle.base.specs.Over.{over};
-ghost use Rattle.fault.specs.Answer.{given};
+ghost use Rattle.fault.specs.Answer.{given, then};
 ghost use Rattle.record.specs.Record.{recordBytes};
-ghost use Rattle.rows.specs.Find.{noneBad};
+ghost use Rattle.wellformed.specs.WellFormed.{wellFormed};
 ghost use Rattle.splice.specs.Edit.{replaced, bufferWith};
 ghost use Rattle.journal.specs.Journal.{editRecord};
 ghost use Rattle.change.specs.Change as request;
@@ -33,6 +34,12 @@ pub enum Edited {
 pub enum Replayed {
     Size(usize),
     Refused(Fault),
+}
+
+// A part of some bytes, the end exclusive.
+struct Part {
+    from: usize,
+    to: usize,
 }
 
 // Whether the numbers fit the buffers (14), and then the file's own faults (1 to 6).
@@ -209,6 +216,154 @@ pub fn remove(
         Checked::Sound => {
             let t = change::remove_target(&file[..size], group, key, key);
             apply(file, size, journal, standing, key, key, t)
+        }
+    }
+}
+
+// Whether a file is well formed once so many bytes at a place became the new ones. The result is built in a lent space, which may hold
+// anything.
+fn built_well(space: &mut [u8], file: &[u8], place: usize, old: usize, new: &[u8]) -> bool
+    requires { ⌜ (place + old ≤ length (now file)) × (length (now file) ≤ length (now space)) × (length (now file) - old + length (now new) ≤ length (now space)) ⌝ }
+    ensures { λ r. ⌜ r ≡ wellFormed (replaced place old (now (new .entry)) (now (file .entry))) ⌝ }
+{
+    let size = file.len();
+    splice::write(space, 0, file);
+    splice::replace(space, size, place, old, new);
+    let after = size - old + new.len();
+    match wellformed::check(&space[..after]) {
+        Checked::Sound => true,
+        Checked::Refused(_) => false,
+    }
+}
+
+// The same, built in an array, for a result that is not too long.
+fn makes_well(file: &[u8], place: usize, old: usize, new: &[u8]) -> bool
+    requires { ⌜ (place + old ≤ length (now file)) × (length (now file) ≤ 32768) × (length (now file) - old + length (now new) ≤ 32768) ⌝ }
+    ensures { λ r. ⌜ r ≡ wellFormed (replaced place old (now (new .entry)) (now (file .entry))) ⌝ }
+{
+    let mut space = [0u8; 32768];
+    built_well(&mut space, file, place, old, new)
+}
+
+// What an edit from the journal would make of a file in a buffer of so many bytes: 14 unless its old bytes stand at the place,
+// 11 if the result has no room, 14 unless it is well formed.
+fn outcome(file: &[u8], room: usize, place: usize, gone: &[u8], come: &[u8]) -> Replayed
+    requires { ⌜ (length (now file) ≤ room) × (length (now file) ≤ 32768) ⌝ }
+    ensures { λ r. ⌜ step.sized r ≡ then length (step.replayedIn room (now (file .entry)) (step.swap place (now (gone .entry)) (now (come .entry)))) ⌝ }
+{
+    if !splice::stands(file, place, gone) {
+        return Replayed::Refused(Fault::Damaged);
+    }
+    let kept = file.len() - gone.len();
+    if room - kept < come.len() {
+        return Replayed::Refused(Fault::NoRoom);
+    }
+    if 32768 - kept < come.len() {
+        return Replayed::Refused(Fault::NoRoom);
+    }
+    if makes_well(file, place, gone.len(), come) {
+        return Replayed::Size(kept + come.len());
+    }
+    Replayed::Refused(Fault::Damaged)
+}
+
+// An edit from the journal: decided first, and then made in the file's own buffer.
+fn replay(file: &mut [u8], size: usize, place: usize, gone: &[u8], come: &[u8]) -> Replayed
+    requires { ⌜ (size ≤ length (now file)) × (size ≤ 32768) ⌝ }
+    ensures answer { λ r. ⌜ step.sized r ≡ then length (step.replayedIn (length (now (file .entry))) (take size (now (file .entry))) (step.swap place (now (gone .entry)) (now (come .entry)))) ⌝ }
+    ensures file { λ _. ⌜ now (file .exit) ≡ step.became (now (file .entry)) size (step.replayedIn (length (now (file .entry))) (take size (now (file .entry))) (step.swap place (now (gone .entry)) (now (come .entry)))) ⌝ }
+{
+    let room = file.len();
+    match outcome(&file[..size], room, place, gone, come) {
+        Replayed::Refused(f) => Replayed::Refused(f),
+        Replayed::Size(n) => {
+            splice::replace(file, size, place, gone.len(), come);
+            Replayed::Size(n)
+        }
+    }
+}
+
+// An edit from the journal, of bytes that stand in the journal, and the numbers after it.
+fn again(
+    file: &mut [u8],
+    size: usize,
+    edits: &[u8],
+    used: usize,
+    standing: usize,
+    place: usize,
+    gone: Part,
+    come: Part,
+) -> Edited
+    requires { ⌜ (size ≤ length (now file)) × (size ≤ 32768) ⌝ }
+    requires { ⌜ (gone .from ≤ gone .to) × (gone .to ≤ length (now edits)) × (come .from ≤ come .to) × (come .to ≤ length (now edits)) ⌝ }
+    ensures answer { λ r. ⌜ step.answered r ≡ then (step.numbers used standing) (step.replayedIn (length (now (file .entry))) (take size (now (file .entry))) (step.swap place (part (gone .from) (gone .to) (now (edits .entry))) (part (come .from) (come .to) (now (edits .entry))))) ⌝ }
+    ensures file { λ _. ⌜ now (file .exit) ≡ step.became (now (file .entry)) size (step.replayedIn (length (now (file .entry))) (take size (now (file .entry))) (step.swap place (part (gone .from) (gone .to) (now (edits .entry))) (part (come .from) (come .to) (now (edits .entry))))) ⌝ }
+{
+    let a = gone.from;
+    let b = gone.to;
+    let c = come.from;
+    let d = come.to;
+    match replay(file, size, place, &edits[a..b], &edits[c..d]) {
+        Replayed::Refused(f) => Edited::Refused(f),
+        Replayed::Size(size) => Edited::Done {
+            size,
+            used,
+            standing,
+        },
+    }
+}
+
+// Undo: the latest edit that stands is taken back, and its record no longer stands. Refusals: 14 for the numbers, 1 to 6, 14 for the journal,
+// 12 if nothing stands, and those of the edit.
+pub fn undo(file: &mut [u8], size: usize, journal: &[u8], used: usize, standing: usize) -> Edited
+    ensures answer { λ r. ⌜ step.answered r ≡ step.told (calls.undo (step.lent (now (file .entry)) size (now (journal .entry)) used standing)) ⌝ }
+    ensures file { λ _. ⌜ now (file .exit) ≡ calls.atExit (step.lent (now (file .entry)) size (now (journal .entry)) used standing) (calls.undo (step.lent (now (file .entry)) size (now (journal .entry)) used standing)) .file ⌝ }
+{
+    match ready(file, size, journal, used, standing) {
+        Checked::Refused(f) => Edited::Refused(f),
+        Checked::Sound => {
+            let edits = &journal[..used];
+            match journal::last_standing(edits, standing) {
+                Next::Damaged => Edited::Refused(Fault::Damaged),
+                Next::Nothing => Edited::Refused(Fault::NothingLeft),
+                Next::Edit {
+                    place,
+                    old,
+                    new,
+                    end,
+                } => {
+                    let older = Part { from: old, to: new };
+                    let newer = Part { from: new, to: end };
+                    again(file, size, edits, used, old - 18, place, newer, older)
+                }
+            }
+        }
+    }
+}
+
+// Redo: the next edit that waits is made again, and its record stands. The same refusals, 12 if nothing waits.
+pub fn redo(file: &mut [u8], size: usize, journal: &[u8], used: usize, standing: usize) -> Edited
+    ensures answer { λ r. ⌜ step.answered r ≡ step.told (calls.redo (step.lent (now (file .entry)) size (now (journal .entry)) used standing)) ⌝ }
+    ensures file { λ _. ⌜ now (file .exit) ≡ calls.atExit (step.lent (now (file .entry)) size (now (journal .entry)) used standing) (calls.redo (step.lent (now (file .entry)) size (now (journal .entry)) used standing)) .file ⌝ }
+{
+    match ready(file, size, journal, used, standing) {
+        Checked::Refused(f) => Edited::Refused(f),
+        Checked::Sound => {
+            let edits = &journal[..used];
+            match journal::first_waiting(edits, standing) {
+                Next::Damaged => Edited::Refused(Fault::Damaged),
+                Next::Nothing => Edited::Refused(Fault::NothingLeft),
+                Next::Edit {
+                    place,
+                    old,
+                    new,
+                    end,
+                } => {
+                    let older = Part { from: old, to: new };
+                    let newer = Part { from: new, to: end };
+                    again(file, size, edits, used, end, place, older, newer)
+                }
+            }
         }
     }
 }

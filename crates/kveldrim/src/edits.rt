@@ -2,7 +2,7 @@
 use edit::Edited;
 ghost use mathlib.Core.Path.{_≡_};
 ghost use Rattle.change.specs.Change.{Set, Remove};
-ghost use Rattle.edit.specs.Calls.{request};
+ghost use Rattle.edit.specs.Calls.{request, undo, redo};
 ghost use Rattle.edit.specs.Step.{lent, answered};
 ghost use Rattle.kveldrim.specs.Abi.{codeOf, placeIn, writtenIn, Called};
 
@@ -77,5 +77,45 @@ pub extern "C" fn kveldrim_remove(
     let u = *used as usize;
     let n = *standing as usize;
     let e = edit::remove(file, length, journal, u, n, group, key);
+    tell_edited(e, size, used, standing, place)
+}
+
+#[no_mangle]
+pub extern "C" fn kveldrim_undo(
+    file: &mut [u8],
+    size: &mut u64,
+    journal: &mut [u8],
+    used: &mut u64,
+    standing: &mut u64,
+    place: &mut u64,
+) -> u32
+    ensures { λ r. ⌜ Called (lent (now (file .entry)) (now (size .entry)) (now (journal .entry)) (now (used .entry)) (now (standing .entry)))
+        (undo (lent (now (file .entry)) (now (size .entry)) (now (journal .entry)) (now (used .entry)) (now (standing .entry))))
+        r (now (place .exit)) (now (size .exit)) (now (used .exit)) (now (standing .exit)) (now (file .exit)) (now (journal .exit)) ⌝ }
+{
+    let length = *size as usize;
+    let u = *used as usize;
+    let n = *standing as usize;
+    let e = edit::undo(file, length, journal, u, n);
+    tell_edited(e, size, used, standing, place)
+}
+
+#[no_mangle]
+pub extern "C" fn kveldrim_redo(
+    file: &mut [u8],
+    size: &mut u64,
+    journal: &mut [u8],
+    used: &mut u64,
+    standing: &mut u64,
+    place: &mut u64,
+) -> u32
+    ensures { λ r. ⌜ Called (lent (now (file .entry)) (now (size .entry)) (now (journal .entry)) (now (used .entry)) (now (standing .entry)))
+        (redo (lent (now (file .entry)) (now (size .entry)) (now (journal .entry)) (now (used .entry)) (now (standing .entry))))
+        r (now (place .exit)) (now (size .exit)) (now (used .exit)) (now (standing .exit)) (now (file .exit)) (now (journal .exit)) ⌝ }
+{
+    let length = *size as usize;
+    let u = *used as usize;
+    let n = *standing as usize;
+    let e = edit::redo(file, length, journal, u, n);
     tell_edited(e, size, used, standing, place)
 }
