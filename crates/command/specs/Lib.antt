@@ -1,0 +1,4 @@
+pub mod Words
+pub mod Codes
+pub mod Command
+pub mod Step
