@@ -1,2 +1,4 @@
 pub mod Examples
 pub mod Parting
+pub mod Pieces
+pub mod Checks

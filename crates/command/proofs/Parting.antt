@@ -48,6 +48,10 @@ quote-le (b ∷ s) false = go (eqb b 34) (quote-le s (eqb b 92))
     go true h = omega arith
     go false h = omega arith
 
+-- a quote that was looked for behind an opening one
+pub quote-ends : (s : List ℕ) {c : ℕ} → 0 < length s → c ≡ 1 + insideLength s → (0 < c) × (c ≤ length s)
+quote-ends s h e = let l = quote-le (drop 1 s) false in let d = length-drop 1 s in (omega arith, omega arith)
+
 quoted-le : (s : List ℕ) → 0 < length s → quotedLength s ≤ length s
 quoted-le s h = go (opens s)
   where

@@ -97,20 +97,24 @@ piecesFault quoted program taken [] n at = none
 piecesFault quoted program taken (b ∷ bs) (suc n) at = piecesFault quoted program taken bs n (at + 1)
 piecesFault quoted program taken (b ∷ bs) zero at =
     let c : ℕ = byteAt bs 0 in
-    let later : Option Fault = piecesFault quoted program (taken || isItem (pieceOf quoted b c)) bs (widthOf quoted b - 1) (at + 1) in
+    let later : Option Fault = piecesFault quoted program (isItem (pieceOf quoted b c) || taken) bs (widthOf quoted b - 1) (at + 1) in
     maybe (pieceFault quoted program taken b c at) later some
 
+-- a word of so many bytes, of them so many in quotes: it is not closed, or it is an empty program
+abbrev pub unfit : Bool → ℕ → ℕ → Bool
+unfit program size n = leb size (n + 1) || (program && eqb n 0)
+
 -- a quoted word: an unclosed quote and an empty program have their place at the opening quote; behind the closing one stands nothing
-unfoldable pub quotedFault : Bool → Word → Option Fault
-quotedFault program w =
+unfoldable pub quotedFault : Bool → Bool → Word → Option Fault
+quotedFault program taken w =
     let n : ℕ = insideLength (w .bytes) in
     let behind : Option Fault = pick (eqb (length (w .bytes)) (n + 2)) none (some (BadExec (w .start + n + 2))) in
-    pick (leb (length (w .bytes)) (n + 1) || (program && eqb n 0)) (some (BadExec (w .start)))
-    (maybe (piecesFault true program false (inside (w .bytes)) 0 (w .start + 1)) behind some)
+    pick (unfit program (length (w .bytes)) n) (some (BadExec (w .start)))
+    (maybe (piecesFault true program taken (inside (w .bytes)) 0 (w .start + 1)) behind some)
 
 -- a word's first fault, by its form: the program is no code, and one code at most takes files
 abbrev pub faultAs : Form → Bool → Bool → Word → Option Fault
-faultAs form.Quoted program taken w = quotedFault program w
+faultAs form.Quoted program taken w = quotedFault program taken w
 faultAs form.Files program taken w = pick (program || taken) (some (BadCode (w .start))) none
 faultAs form.Icon program taken w = pick program (some (BadCode (w .start))) none
 faultAs form.Bare program taken w = piecesFault false program taken (w .bytes) 0 (w .start)
@@ -136,10 +140,24 @@ unfoldable pub wordsFault : Bool → Bool → List Word → Option Fault
 wordsFault true taken [] = some (BadExec 0)
 wordsFault false taken [] = none
 wordsFault program taken (w ∷ ws) =
-    let later : Option Fault = wordsFault false (taken || takesFiles (argumentOf w)) ws in
+    let later : Option Fault = wordsFault false (takesFiles (argumentOf w) || taken) ws in
     maybe (wordFault program taken w) later some
 
 -- ---- the command
+
+-- the piece is the Name
+abbrev pub isName : Piece → Bool
+isName (piece.Byte b) = false
+isName piece.Item = false
+isName piece.Name = true
+isName piece.Location = false
+isName piece.Vanished = false
+
+-- the argument is the Icon
+abbrev pub isIcon : Argument → Bool
+isIcon Files = false
+isIcon Icon = true
+isIcon (Text quoted ps) = false
 
 -- the arguments of an unescaped Exec that is well written
 abbrev pub argumentsIn : List ℕ → List Argument

@@ -7,7 +7,8 @@ use Rattle.base.specs.Choice.{maybe}
 use Rattle.fault.specs.declared.Fault.{Fault}
 use Rattle.fault.specs.Answer.{Answer, given, refused}
 use Rattle.command.specs.Words.{Word}
-use Rattle.command.specs.Command.{Argument, Files, Icon, Text}
+use Rattle.base.specs.Lists.{any}
+use Rattle.command.specs.Command.{Argument, Files, Icon, Text, takesFiles, hasPiece, isItem, isName, isIcon}
 use Rattle.command.specs.declared.Piece.{Piece}
 use Rattle.command.specs.declared.Piece.the-variants as piece
 use Rattle.command.specs.declared.Seen.{Seen}
@@ -53,3 +54,11 @@ checkedAs (checked.Refused f) = refused f
 -- a fault, or which codes then stand
 abbrev pub unlessFault : Option Fault → Seen → Answer Seen
 unlessFault o s = maybe o (given s) refused
+
+-- nothing seen yet
+abbrev pub unseen : Seen
+unseen = record { taken = false; item = false; name = false; icon = false }
+
+-- which codes stand in some arguments
+unfoldable pub codesIn : List Argument → Seen
+codesIn args = record { taken = any takesFiles args; item = any (hasPiece isItem) args; name = any (hasPiece isName) args; icon = any isIcon args }

@@ -9,7 +9,7 @@ ghost use Rattle.command.specs.Command as command;
 ghost use Rattle.command.specs.Step.{faultIn};
 
 // Whether a byte is one of these.
-fn one_of(set: &[u8], b: u8) -> bool
+pub fn one_of(set: &[u8], b: u8) -> bool
     ensures { λ r. ⌜ r ≡ spec.oneOf (now (set .entry)) b ⌝ }
 {
     let mut i: usize = 0;

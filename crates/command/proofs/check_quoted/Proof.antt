@@ -1,0 +1,65 @@
+-- `check_quoted` meets its contract: the calls that led to each return say which answer the definition has. Assumes nothing.
+use native.Mathlib.Omega.{arith}
+use mathlib.Core.Path.{sym, ap, _∙_}
+use borrow.Author.Tests.{eq-eqb, ne-eqb}
+use Rattle.base.proofs.Lists.{length-part}
+use Rattle.command.specs.Step.{checkedAs}
+use Rattle.command.proofs.Parting.{quote-ends}
+use Rattle.command.proofs.Checks.{quoted-unfit, quoted-refused, quoted-sound, quoted-behind}
+use borrow.Author.Needs.{needs}
+use Rattle.command.proofs.check_quoted.Statement.{statement}
+use Rattle.command.proofs.check_quoted.Tie as tie
+
+is-unfit-requires : tie.Need-is-unfit-requires
+is-unfit-requires c κs = omega (arith, quote-ends (c .before .before .args .word .now) (search needs) (c .quote-end .ensures))
+
+returns : tie.Need-returns
+returns c = quoted-unfit (c .before .before .before .before .args .program) (c .before .before .before .before .args .seen .taken) (c .before .before .before .before .args .start) (c .before .before .before .before .args .word .now) (c .before .before .before .before .args .seen) (omega (arith, c .before .before .quote-end .ensures)) (sym (c .before .is-unfit .ensures) ∙ c .if1 .taken)
+
+part-check-pieces-end : tie.Need-part-check-pieces-end
+part-check-pieces-end c = omega (arith, quote-ends (c .before .before .before .before .args .word .now) (search needs) (c .before .before .quote-end .ensures))
+
+check-pieces-requires : tie.Need-check-pieces-requires
+check-pieces-requires c κs =
+    let q = quote-ends (c .before .before .before .before .before .args .word .now) (search needs) (c .before .before .before .quote-end .ensures) in
+    omega (arith, length-part 1 (c .before .before .before .quote-end .result) (c .before .before .before .before .before .args .word .now) (q .1))
+
+add-if2 : tie.Need-add-if2
+add-if2 c = omega (arith, quote-ends (c .before .before .before .before .before .before .before .before .before .args .word .now) (search needs) (c .before .before .before .before .before .before .before .quote-end .ensures))
+
+returns-2 : tie.Need-returns-2
+returns-2 c = quoted-sound (c .before .before .before .before .before .before .before .before .before .before .args .program) (c .before .before .before .before .before .before .before .before .before .before .args .seen .taken) (c .before .before .before .before .before .before .before .before .before .before .args .start) (c .before .before .before .before .before .before .before .before .before .before .args .word .now) (c .before .before .before .before .before .before .before .before .before .before .args .seen) (omega (arith, c .before .before .before .before .before .before .before .before .quote-end .ensures)) (sym (c .before .before .before .before .before .before .before .is-unfit .ensures) ∙ c .before .before .before .before .before .before .if1 .left) (sym (ap checkedAs (c .before .before .known .given .1)) ∙ c .before .before .before .before .check-pieces .ensures) (eq-eqb _ _ (c .if2 .taken))
+
+add-t18 : tie.Need-add-t18
+add-t18 c = omega (arith, quote-ends (c .before .before .before .before .before .before .before .before .before .before .args .word .now) (search needs) (c .before .before .before .before .before .before .before .before .quote-end .ensures))
+
+add-t19 : tie.Need-add-t19
+add-t19 c = omega (arith, quote-ends (c .before .before .before .before .before .before .before .before .before .before .args .word .now) (search needs) (c .before .before .before .before .before .before .before .before .quote-end .ensures))
+
+returns-3 : tie.Need-returns-3
+returns-3 c = quoted-refused (c .before .before .before .before .before .before .before .before .before .args .program) (c .before .before .before .before .before .before .before .before .before .args .seen .taken) (c .before .before .before .before .before .before .before .before .before .args .start) (c .before .before .before .before .before .before .before .before .before .args .word .now) (c .before .before .before .before .before .before .before .before .before .args .seen) (omega (arith, c .before .before .before .before .before .before .before .quote-end .ensures)) (sym (c .before .before .before .before .before .before .is-unfit .ensures) ∙ c .before .before .before .before .before .if1 .left) (sym (ap checkedAs (c .before .f .given .1)) ∙ c .before .before .before .check-pieces .ensures)
+
+returns-4 : tie.Need-returns-4
+returns-4 c = quoted-behind (c .before .before .before .before .before .before .before .before .before .before .args .program) (c .before .before .before .before .before .before .before .before .before .before .args .seen .taken) (c .before .before .before .before .before .before .before .before .before .before .args .start) (c .before .before .before .before .before .before .before .before .before .before .args .word .now) (c .before .before .before .before .before .before .before .before .before .before .args .seen) (omega (arith, c .before .before .before .before .before .before .before .before .quote-end .ensures)) (sym (c .before .before .before .before .before .before .before .is-unfit .ensures) ∙ c .before .before .before .before .before .before .if1 .left) (sym (ap checkedAs (c .before .before .known .given .1)) ∙ c .before .before .before .before .check-pieces .ensures) (ne-eqb _ _ (c .if2 .left))
+
+pub check-quoted-spec : {M : Type 1} → statement M
+check-quoted-spec =
+    tie.close
+    (tie.spec
+    (λ c κs. search needs)
+    (λ c. search needs)
+    is-unfit-requires
+    returns
+    (λ c. search needs)
+    (λ c. search needs)
+    part-check-pieces-end
+    (λ c. search needs)
+    check-pieces-requires
+    (λ c. search needs)
+    (λ c. search needs)
+    add-if2
+    returns-2
+    add-t18
+    add-t19
+    returns-3
+    returns-4)
