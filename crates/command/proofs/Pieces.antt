@@ -109,3 +109,12 @@ module _ {q p : Bool} {s : List ℕ} {at : ℕ} {seen₀ : Seen} {i : ℕ} {seen
           faults = rw (y, see-taken seen x, g) (rw (faults-here q s i h p (seen .taken) at e f, ← r) at (w .faults));
           codes = rw (y, g) (rw (pieces-here q s i h e f) at (w .codes));
         }
+
+-- ---- a loop over pieces
+
+module _ (q : Bool) (s : List ℕ) (i : ℕ) {j : ℕ} (f : j ≡ i + widthOf q (getD s i 0)) where
+  pub pieces-further : i < j
+  pieces-further = let b = width-within q (getD s i 0) in omega arith
+
+  pub pieces-next : i < length s → {p : Piece} → p ≡ pieceOf q (getD s i 0) (getD s (i + 1) 0) → piecesAt q s i ≡ p ∷ piecesAt q s j
+  pieces-next h e = rw (e, f) (pieces-here q s i h refl refl)

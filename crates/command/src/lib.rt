@@ -1,12 +1,12 @@
 // The command in an unescaped Exec: its words, its arguments and their pieces, and the lowest place of a fault.
 mod codes; // codes.rt: bytes and field codes
-mod words; // words.rt: words
+pub mod words; // words.rt: words
 
 use fault::Fault;
 ghost use mathlib.Core.Path.{_≡_};
 ghost use mathlib.Core.Bool.{true, false};
 ghost use Prim.Native.Nat.{_+_, _≤_, _<_};
-ghost use lib.ListN.{length};
+ghost use lib.ListN.{length, getD};
 ghost use Rattle.fault.specs.Answer.{then};
 ghost use Rattle.command.specs.Command as command;
 ghost use Rattle.command.specs.Step as step;
@@ -76,6 +76,22 @@ pub fn form_of(word: &[u8]) -> Form
         return Form::Bare;
     }
     Form::Bare
+}
+
+// The piece that begins at a place, in quotes or in none.
+pub fn piece_at(s: &[u8], i: usize, quoted: bool) -> Piece
+    requires { ⌜ i < length (now s) ⌝ }
+    ensures { λ r. ⌜ r ≡ command.pieceOf quoted (getD (now (s .entry)) i 0) (getD (now (s .entry)) (i + 1) 0) ⌝ }
+{
+    codes::piece_of(quoted, s[i], line::byte_at(s, i + 1))
+}
+
+// Where the next one begins.
+pub fn next_at(s: &[u8], i: usize, quoted: bool) -> usize
+    requires { ⌜ (i < length (now s)) × (length (now s) ≤ 32768) ⌝ }
+    ensures { λ r. ⌜ r ≡ i + command.widthOf quoted (getD (now (s .entry)) i 0) ⌝ }
+{
+    i + codes::width_of(quoted, s[i])
 }
 
 // Which codes stand, with one piece more.

@@ -1,0 +1,4 @@
+pub mod Spending
+pub mod Listing
+pub mod Arguments
+pub mod Filling

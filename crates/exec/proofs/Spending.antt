@@ -1,0 +1,86 @@
+-- Room that is spent, and what the pieces and arguments of a run take. Assumes nothing.
+use mathlib.Core.Path.{_≡_, refl, sym, ap, _∙_}
+use Prim.Native.Nat.{ℕ, _+_, _-_, _≤_, _<_}
+use native.Mathlib.Nat.{sub-zero}
+use native.Mathlib.Omega.{arith}
+use mathlib.Core.Bool.{Bool, true, false}
+use mathlib.Core.List.{List, [], _∷_, _++_}
+use lib.ListN.{length, getD, length-append}
+use lib.Dec.{leb}
+use borrow.Author.Tests.{le-leb, lt-leb, leb-true, leb-false}
+use Rattle.base.specs.Choice.{pick}
+use Rattle.base.specs.Lists.{joined}
+use Rattle.base.proofs.Tests.{no, by-test}
+use Rattle.text.specs.declared.Left.{Left}
+use Rattle.text.specs.declared.Left.the-variants as left
+use Rattle.command.specs.declared.Piece.{Piece}
+use Rattle.command.specs.Command.{piecesOf, pieceOf, widthOf}
+use Rattle.command.proofs.Pieces.{piecesAt, pieces-done, pieces-next}
+use Rattle.exec.specs.Run.{Put, pieceBytes, piecesBytes}
+use Rattle.exec.specs.Step.{spend}
+
+pub spend-zero : (l : Left) → spend l 0 ≡ l
+unfolding spend
+spend-zero (left.Bytes room) = rw (le-leb 0 room (omega arith), sub-zero room)
+spend-zero left.Short = refl
+
+pub spend-enough : {room n : ℕ} → n ≤ room → spend (left.Bytes room) n ≡ left.Bytes (room - n)
+unfolding spend
+spend-enough {room} {n} h = rw (le-leb n room h)
+
+pub spend-short : {room n : ℕ} → room < n → spend (left.Bytes room) n ≡ left.Short
+unfolding spend
+spend-short {room} {n} h = rw (lt-leb n room h)
+
+short-stays : (n : ℕ) → spend left.Short n ≡ left.Short
+unfolding spend
+short-stays n = refl
+
+-- n bytes and then m
+pub spend-add : (l : Left) (n m : ℕ) → spend (spend l n) m ≡ spend l (n + m)
+spend-add left.Short n m = rw (short-stays n, short-stays m, short-stays (n + m))
+spend-add (left.Bytes room) n m =
+    by-test (leb n room)
+    (λ e. let h = leb-true n room e in
+    rw (spend-enough h)
+    (by-test (leb m (room - n))
+    (λ f. let g = leb-true m (room - n) f in let k : room - n - m ≡ room - (n + m) = omega arith in rw (spend-enough g, spend-enough {room = room} {n = n + m} (omega arith), k))
+    (λ f. let g = leb-false m (room - n) f in rw (spend-short g, spend-short {room = room} {n = n + m} (omega arith)))))
+    (λ e. let h = leb-false n room e in rw (spend-short h, short-stays m, spend-short {room = room} {n = n + m} (omega arith)))
+
+-- where it was enough, it was enough
+pub spend-was : {room n m : ℕ} → left.Bytes m ≡ spend (left.Bytes room) n → n ≤ room
+spend-was {room} {n} {m} e =
+    by-test (leb n room)
+    (λ f. leb-true n room f)
+    (λ f. let z : left.Bytes m ≡ left.Short = e ∙ spend-short (leb-false n room f) in no (cc))
+
+-- one piece and then the others
+pub bytes-cons : (x : Put) (p : Piece) (ps : List Piece) → piecesBytes x (p ∷ ps) ≡ pieceBytes x p ++ piecesBytes x ps
+unfolding piecesBytes joined
+bytes-cons x p ps = refl
+
+pub bytes-none : (x : Put) → piecesBytes x [] ≡ []
+unfolding piecesBytes joined
+bytes-none x = refl
+
+-- ---- measuring pieces: the room left and what the pieces from the place on take are the whole answer
+
+pub record Spending (x : Put) (q : Bool) (s : List ℕ) (room₀ : Left) (i : ℕ) (room : Left) : Type 0 where
+  pub same : spend room (length (piecesBytes x (piecesAt q s i))) ≡ spend room₀ (length (piecesBytes x (piecesOf q s)))
+
+pub spending-start : {x : Put} {q : Bool} {s : List ℕ} {room : Left} → Spending x q s room 0 room
+spending-start = record { same = refl }
+
+module _ {x : Put} {q : Bool} {s : List ℕ} {room₀ : Left} {i : ℕ} {room : Left} (w : Spending x q s room₀ i room) where
+  pub spending-next : i < length s → {p : Piece} {n j : ℕ} {room₁ : Left} → p ≡ pieceOf q (getD s i 0) (getD s (i + 1) 0) → n ≡ length (pieceBytes x p)
+      → room₁ ≡ spend room n → j ≡ i + widthOf q (getD s i 0) → Spending x q s room₀ j room₁
+  spending-next h {p} {n} {j} {room₁} e l r f =
+      record {
+        same =
+            rw (r, spend-add room n (length (piecesBytes x (piecesAt q s j))), l, ← length-append (pieceBytes x p) (piecesBytes x (piecesAt q s j)), ← bytes-cons x p (piecesAt q s j))
+            (rw (pieces-next q s i f h e) at (w .same));
+      }
+
+  pub spending-end : length s ≤ i → room ≡ spend room₀ (length (piecesBytes x (piecesOf q s)))
+  spending-end h = sym (spend-zero room) ∙ rw (pieces-done q s i h, bytes-none x) at (w .same)

@@ -1,0 +1,66 @@
+-- `write::put_pieces` meets its contract: what is written and the pieces from `i` on make the whole. Assumes nothing.
+use borrow.Author.Needs.{needs}
+use native.Mathlib.Omega.{arith}
+use mathlib.Core.Path.{refl}
+use Prim.Native.Nat.{_-_}
+use lib.ListN.{length}
+use Rattle.command.specs.Command.{piecesOf, widthOf}
+use Rattle.command.proofs.Pieces.{piecesAt, pieces-further}
+use Rattle.exec.specs.Run.{pieceBytes, piecesBytes}
+use Rattle.exec.specs.Step.{putOf}
+use Rattle.exec.proofs.Filling.{Filling, filling-start, filling-room, filling-next, filling-end, bytes-next, bytes-done}
+use Rattle.exec.proofs.write.put_pieces.Statement.{statement}
+use Rattle.exec.proofs.write.put_pieces.Tie as tie
+
+abbrev Inv-loop : tie.InvT-loop
+Inv-loop out₀ s quoted item name location i₀ at₀ out i at = Filling out₀ (piecesBytes (putOf item name location) (piecesOf quoted s)) out at (piecesBytes (putOf item name location) (piecesAt quoted s i))
+
+abbrev μ-loop : tie.MeasureT-loop
+μ-loop out₀ s quoted item name location i₀ at₀ out i at = length s - i
+
+loop-holds : tie.Need-loop-holds Inv-loop μ-loop
+loop-holds c = filling-start (c .before .before .before .before .before .pre .1)
+
+piece-at-requires : tie.Need-piece-at-requires Inv-loop μ-loop
+piece-at-requires c κs = search needs
+
+put-piece-requires : tie.Need-put-piece-requires Inv-loop μ-loop
+put-piece-requires c κs =
+    let a = c .before .before .before .before .before .before .before .before .before .args in
+    let x = putOf (a .item .now) (a .name .now) (a .location .now) in
+    filling-room (c .before .before .before .loop .inv) (pieceBytes x (c .before .piece-at .result)) _ (bytes-next x (a .quoted) (a .s .now) (c .before .before .before .loop .i) (c .before .before .loop-test .taken) (c .before .piece-at .ensures) refl)
+
+next-at-requires : tie.Need-next-at-requires Inv-loop μ-loop
+next-at-requires c κs = search needs
+
+loop-less : tie.Need-loop-less Inv-loop μ-loop
+loop-less c = omega (arith, pieces-further (c .before .before .before .before .before .before .before .before .before .before .before .before .before .args .quoted) (c .before .before .before .before .before .before .before .before .before .before .before .before .before .args .s .now) (c .before .before .before .before .before .before .before .loop .i) (c .next-at .ensures))
+
+loop-again : tie.Need-loop-again Inv-loop μ-loop
+loop-again c =
+    let a = c .before .before .before .before .before .before .before .before .before .before .before .before .before .args in
+    let x = putOf (a .item .now) (a .name .now) (a .location .now) in
+    filling-next (c .before .before .before .before .before .before .before .loop .inv) (pieceBytes x (c .before .before .before .before .before .piece-at .result)) _ (bytes-next x (a .quoted) (a .s .now) (c .before .before .before .before .before .before .before .loop .i) (c .before .before .before .before .before .before .loop-test .taken) (c .before .before .before .before .before .piece-at .ensures) (c .next-at .ensures)) (c .before .before .before .put-piece .ensures)
+
+same-length : tie.Need-same-length Inv-loop μ-loop
+same-length c = search needs
+
+returns : tie.Need-returns Inv-loop μ-loop
+returns c =
+    let a = c .before .before .before .before .before .before .before .args in
+    filling-end (c .before .loop .inv) (bytes-done (putOf (a .item .now) (a .name .now) (a .location .now)) (a .quoted) (a .s .now) (c .before .loop .i) (c .loop-test .left))
+
+pub put-pieces-spec : {M : Type 1} → statement M
+put-pieces-spec =
+    tie.close
+    (tie.spec
+    Inv-loop
+    μ-loop
+    loop-holds
+    piece-at-requires
+    put-piece-requires
+    next-at-requires
+    loop-less
+    loop-again
+    same-length
+    returns)

@@ -1,0 +1,22 @@
+-- What the inner functions of this crate answer, by the definitions of a run. Assumes nothing.
+use Prim.Native.Nat.{ℕ, _-_}
+use mathlib.Core.List.{List, []}
+use lib.Dec.{leb}
+use Rattle.base.specs.Choice.{pick, maybe}
+use Rattle.record.specs.Record.{readList, listMost}
+use Rattle.exec.specs.Run.{Put, Run, runOf}
+use Rattle.text.specs.declared.Left.{Left}
+use Rattle.text.specs.declared.Left.the-variants as left
+
+-- the room left after n bytes
+unfoldable pub spend : Left → ℕ → Left
+spend (left.Bytes room) n = pick (leb n room) (left.Bytes (room - n)) left.Short
+spend left.Short n = left.Short
+
+-- the items of a list that reads
+abbrev pub itemsIn : List ℕ → List (List ℕ)
+itemsIn list = maybe (readList 2 listMost list) [] (λ items. items)
+
+-- what is put in, by the slices that hold it
+abbrev pub putOf : List ℕ → List ℕ → List ℕ → Put
+putOf item name location = record { item = item; name = name; location = location }
