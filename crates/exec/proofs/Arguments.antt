@@ -6,14 +6,15 @@ use mathlib.Core.Bool.{Bool, true, false}
 use mathlib.Core.List.{List, [], _∷_, _++_, map}
 use lib.ListN.{length, drop, getD, length-append}
 use borrow.Author.Tests.{eq-eqb, ne-eqb}
-use Rattle.base.specs.Lists.{part}
+use Rattle.base.specs.Lists.{part, all}
 use Rattle.record.specs.Record.{listOf}
 use Rattle.record.proofs.Sizes.{list-of-append}
 use Rattle.text.specs.declared.Left.{Left}
-use Rattle.command.specs.Words.{wordLength, wordsAfter}
-use Rattle.command.specs.Command.{Argument, formOf, argumentAs, argumentOf, argumentsIn}
+use Rattle.command.specs.declared.Form.the-variants as form
+use Rattle.command.specs.Words.{wordLength, insideLength}
+use Rattle.command.specs.Command.{Argument, piecesOf, formOf, argumentAs, argumentOf, argumentsIn}
 use Rattle.command.proofs.Parting.{wordsAt, words-done, words-space, words-word}
-use Rattle.exec.specs.Run.{Run, iconArguments, expanded, expandedAll}
+use Rattle.exec.specs.Run.{Run, piecesBytes, leavesNothing, iconArguments, expanded, expandedAll}
 use Rattle.exec.specs.Step.{spend}
 use Rattle.exec.proofs.Listing.{list-none, length-cons, length-one}
 use Rattle.exec.proofs.Spending.{spend-zero, spend-add}
@@ -29,6 +30,30 @@ recordsAt r s i = recordsOf r (map argumentOf (wordsAt s i))
 -- of one word
 abbrev pub wordRecords : Run → List ℕ → List ℕ
 wordRecords r word = listOf 3 (expanded r (argumentAs (formOf word) word))
+
+-- ---- by the form of a word
+
+module _ (r : Run) (word : List ℕ) where
+  pub files-records : form.Files ≡ formOf word → wordRecords r word ≡ listOf 3 (r .items)
+  unfolding expanded
+  files-records e = rw (← e)
+
+  pub icon-records : form.Icon ≡ formOf word → wordRecords r word ≡ listOf 3 (iconArguments (r .icon))
+  unfolding expanded
+  icon-records e = rw (← e)
+
+  -- between the quotes, which close at c
+  pub quoted-records : {c : ℕ} → form.Quoted ≡ formOf word → c ≡ 1 + insideLength word → wordRecords r word ≡ listOf 3 (piecesBytes (r .put) (piecesOf true (part 1 c word)) ∷ [])
+  unfolding expanded
+  quoted-records {c} e q = let k : insideLength word ≡ c - 1 = omega arith in rw (← e, k)
+
+  pub dropped-records : form.Bare ≡ formOf word → all (leavesNothing (r .put .item)) (piecesOf false word) ≡ true → wordRecords r word ≡ []
+  unfolding expanded
+  dropped-records e d = rw (← e, d) (list-none 3)
+
+  pub bare-records : form.Bare ≡ formOf word → all (leavesNothing (r .put .item)) (piecesOf false word) ≡ false → wordRecords r word ≡ listOf 3 (piecesBytes (r .put) (piecesOf false word) ∷ [])
+  unfolding expanded
+  bare-records e d = rw (← e, d)
 
 -- ---- word by word
 

@@ -21,6 +21,9 @@ pub record Filling (out₀ whole out : List ℕ) (at : ℕ) (rest : List ℕ) : 
 pub filling-start : {out whole : List ℕ} → length whole ≤ length out → Filling out whole out 0 whole
 filling-start {out} {whole} h = record { room = h; fill = fill-start out whole }
 
+pub filling-as : {out₀ whole out : List ℕ} {at : ℕ} {rest left : List ℕ} → Filling out₀ whole out at rest → rest ≡ left → Filling out₀ whole out at left
+filling-as w e = record { room = w .room; fill = fill-as (w .fill) e }
+
 pub filling-end : {out₀ whole out : List ℕ} {at : ℕ} {rest : List ℕ} → Filling out₀ whole out at rest → rest ≡ [] → (at ≡ length whole) × (out ≡ atFront out₀ whole)
 filling-end w e = fill-end (fill-as (w .fill) e)
 

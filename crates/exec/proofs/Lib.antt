@@ -2,3 +2,4 @@ pub mod Spending
 pub mod Listing
 pub mod Arguments
 pub mod Filling
+pub mod Writing

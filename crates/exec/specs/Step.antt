@@ -1,8 +1,11 @@
 -- What the inner functions of this crate answer, by the definitions of a run. Assumes nothing.
-use Prim.Native.Nat.{ℕ, _-_}
+use mathlib.Core.Path.{_≡_}
+use Prim.Native.Nat.{ℕ, _+_, _-_}
 use mathlib.Core.List.{List, []}
+use lib.ListN.{length}
 use lib.Dec.{leb}
 use Rattle.base.specs.Choice.{pick, maybe}
+use Rattle.base.specs.Over.{over}
 use Rattle.record.specs.Record.{readList, listMost}
 use Rattle.exec.specs.Run.{Put, Run, runOf}
 use Rattle.text.specs.declared.Left.{Left}
@@ -20,3 +23,8 @@ itemsIn list = maybe (readList 2 listMost list) [] (λ items. items)
 -- what is put in, by the slices that hold it
 abbrev pub putOf : List ℕ → List ℕ → List ℕ → Put
 putOf item name location = record { item = item; name = name; location = location }
+
+-- a buffer s became t: x stands in it from a place up to n
+pub record Wrote (s : List ℕ) (at : ℕ) (x : List ℕ) (n : ℕ) (t : List ℕ) : Type 0 where
+  pub ends : n ≡ at + length x
+  pub is : t ≡ over s at x

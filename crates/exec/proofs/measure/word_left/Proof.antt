@@ -1,13 +1,13 @@
 -- `measure::word_left` meets its contract: each form takes the room of what its argument becomes. Assumes nothing.
 use native.Mathlib.Omega.{arith}
-use mathlib.Core.Path.{_≡_, sym, _∙_}
-use Prim.Native.Nat.{_-_}
+use mathlib.Core.Path.{sym, _∙_}
 use Rattle.base.proofs.Lists.{length-part}
-use Rattle.command.specs.Words.{insideLength}
 use Rattle.command.proofs.Parting.{quote-ends}
-use Rattle.exec.specs.Run.{expanded}
+use Rattle.exec.specs.Run.{runOf}
+use Rattle.exec.specs.Step.{putOf, itemsIn}
 use Rattle.exec.proofs.Spending.{spend-zero}
-use Rattle.exec.proofs.Listing.{list-none, items-length}
+use Rattle.exec.proofs.Listing.{items-length}
+use Rattle.exec.proofs.Arguments.{files-records, icon-records, quoted-records, dropped-records, bare-records}
 use borrow.Author.Needs.{needs}
 use Rattle.exec.proofs.measure.word_left.Statement.{statement}
 use Rattle.exec.proofs.measure.word_left.Tie as tie
@@ -21,26 +21,34 @@ text-left-requires c κs =
     omega (arith, length-part 1 (c .before .quote-end .result) (c .before .before .before .before .before .before .before .before .before .before .before .args .word .now) (q .1))
 
 returns : tie.Need-returns
-unfolding expanded
-returns c = rw (← c .before .before .before .before .form-of .ensures, c .before .before .enum-told4 .given .1, sym (c .before .is-dropped .ensures) ∙ c .if1 .taken, list-none 3, spend-zero)
+returns c =
+    let a = c .before .before .before .before .before .before .before .before .before .before .before .args in
+    rw (dropped-records (runOf (putOf (a .item .now) (a .name .now) (a .location .now)) (itemsIn (a .list .now)) (a .icon .now)) (a .word .now) (sym (c .before .before .enum-told4 .given .1) ∙ c .before .before .before .before .form-of .ensures) (sym (c .before .is-dropped .ensures) ∙ c .if1 .taken))
+    (sym (spend-zero (a .left)))
 
 returns-2 : tie.Need-returns-2
-unfolding expanded
-returns-2 c = rw (← c .before .before .before .form-of .ensures, c .before .enum-told .given .1, items-length 3 (c .before .before .before .before .before .before .before .before .before .before .args .list .now) (c .before .before .before .before .before .before .before .before .before .before .pre .2)) (c .spend .ensures)
+returns-2 c =
+    let a = c .before .before .before .before .before .before .before .before .before .before .args in
+    rw (files-records (runOf (putOf (a .item .now) (a .name .now) (a .location .now)) (itemsIn (a .list .now)) (a .icon .now)) (a .word .now) (sym (c .before .enum-told .given .1) ∙ c .before .before .before .form-of .ensures), items-length 3 (a .list .now) (c .before .before .before .before .before .before .before .before .before .before .pre .2))
+    (c .spend .ensures)
 
 returns-3 : tie.Need-returns-3
-unfolding expanded
-returns-3 c = rw (← c .before .before .before .form-of .ensures, c .before .enum-told2 .given .1) (c .icon-left .ensures)
+returns-3 c =
+    let a = c .before .before .before .before .before .before .before .before .before .before .args in
+    rw (icon-records (runOf (putOf (a .item .now) (a .name .now) (a .location .now)) (itemsIn (a .list .now)) (a .icon .now)) (a .word .now) (sym (c .before .enum-told2 .given .1) ∙ c .before .before .before .form-of .ensures))
+    (c .icon-left .ensures)
 
 returns-4 : tie.Need-returns-4
-unfolding expanded
 returns-4 c =
-    let k : insideLength (c .before .before .before .before .before .before .before .before .before .before .before .before .args .word .now) ≡ c .before .before .quote-end .result - 1 = omega (arith, c .before .before .quote-end .ensures) in
-    rw (← c .before .before .before .before .before .form-of .ensures, c .before .before .before .enum-told3 .given .1, k) (c .text-left .ensures)
+    let a = c .before .before .before .before .before .before .before .before .before .before .before .before .args in
+    rw (quoted-records (runOf (putOf (a .item .now) (a .name .now) (a .location .now)) (itemsIn (a .list .now)) (a .icon .now)) (a .word .now) (sym (c .before .before .before .enum-told3 .given .1) ∙ c .before .before .before .before .before .form-of .ensures) (c .before .before .quote-end .ensures))
+    (c .text-left .ensures)
 
 returns-5 : tie.Need-returns-5
-unfolding expanded
-returns-5 c = rw (← c .before .before .before .before .before .form-of .ensures, c .before .before .before .enum-told4 .given .1, sym (c .before .before .is-dropped .ensures) ∙ c .before .if1 .left) (c .text-left2 .ensures)
+returns-5 c =
+    let a = c .before .before .before .before .before .before .before .before .before .before .before .before .args in
+    rw (bare-records (runOf (putOf (a .item .now) (a .name .now) (a .location .now)) (itemsIn (a .list .now)) (a .icon .now)) (a .word .now) (sym (c .before .before .before .enum-told4 .given .1) ∙ c .before .before .before .before .before .form-of .ensures) (sym (c .before .before .is-dropped .ensures) ∙ c .before .if1 .left))
+    (c .text-left2 .ensures)
 
 pub word-left-spec : {M : Type 1} → statement M
 word-left-spec =

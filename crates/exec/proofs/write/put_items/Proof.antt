@@ -1,0 +1,86 @@
+-- `write::put_items` meets its contract: what is written and the items from the place on make the whole. Assumes nothing.
+use borrow.Author.Needs.{needs}
+use native.Mathlib.Omega.{arith}
+use mathlib.Core.Path.{sym, _∙_}
+use Prim.Native.Nat.{_-_}
+use lib.ListN.{length}
+use Rattle.record.specs.Record.{listOf}
+use Rattle.record.proofs.Place.{front-damaged, front-record}
+use Rattle.exec.specs.Step.{itemsIn}
+use Rattle.exec.proofs.Filling.{Filling}
+use Rattle.exec.proofs.Writing.{Items, itemsAt, items-begin, items-damaged, items-next, items-room, items-filled, items-end}
+use Rattle.exec.proofs.write.put_items.Statement.{statement}
+use Rattle.exec.proofs.write.put_items.Tie as tie
+
+abbrev Inv-loop : tie.InvT-loop
+Inv-loop out₀ list from₀ at₀ out from at = Items list from × Filling out₀ (listOf 3 (itemsIn list)) out at (listOf 3 (itemsAt list from))
+
+abbrev μ-loop : tie.MeasureT-loop
+μ-loop out₀ list from₀ at₀ out from at = length list - from
+
+loop-holds : tie.Need-loop-holds Inv-loop μ-loop
+loop-holds c = items-begin (c .before .before .args .list .now) (c .before .before .args .out .now) (c .before .before .pre .0) (c .before .before .pre .1)
+
+read-requires : tie.Need-read-requires Inv-loop μ-loop
+read-requires c κs = search needs
+
+enum-known-end : tie.Need-enum-known-end Inv-loop μ-loop
+enum-known-end c = search needs
+
+enum-told : tie.Need-enum-told Inv-loop μ-loop
+enum-told c = search needs
+
+same-length : tie.Need-same-length Inv-loop μ-loop
+same-length c = search needs
+
+returns : tie.Need-returns Inv-loop μ-loop
+returns c = items-damaged (c .before .before .before .before .loop .inv .0) (c .before .before .before .loop-test .taken) (front-damaged _ _ (sym (c .before .before .read .ensures) ∙ c .enum-told .given .1))
+
+add-body : tie.Need-add-body Inv-loop μ-loop
+add-body c = let r = front-record _ _ (sym (c .before .before .before .read .ensures) ∙ c .before .end .given .1) in omega arith
+
+sub-put : tie.Need-sub-put Inv-loop μ-loop
+sub-put c = let r = front-record _ _ (sym (c .before .before .before .before .read .ensures) ∙ c .before .before .end .given .1) in r .head-inside
+
+part-put-start : tie.Need-part-put-start Inv-loop μ-loop
+part-put-start c = let r = front-record _ _ (sym (c .before .before .before .before .read .ensures) ∙ c .before .before .end .given .1) in r .head-inside
+
+part-put-end : tie.Need-part-put-end Inv-loop μ-loop
+part-put-end c = let r = front-record _ _ (sym (c .before .before .before .before .read .ensures) ∙ c .before .before .end .given .1) in r .inside
+
+put-requires : tie.Need-put-requires Inv-loop μ-loop
+put-requires c κs = items-room (c .before .before .before .before .before .before .before .loop .inv .0) (c .before .before .before .before .before .before .before .loop .inv .1) (front-record _ _ (sym (c .before .before .before .before .before .read .ensures) ∙ c .before .before .before .end .given .1))
+
+loop-less : tie.Need-loop-less Inv-loop μ-loop
+loop-less c = let r = front-record _ _ (sym (c .before .before .before .before .before .before .before .before .read .ensures) ∙ c .before .before .before .before .before .before .end .given .1) in omega arith
+
+loop-again : tie.Need-loop-again Inv-loop μ-loop
+loop-again c = let r = front-record _ _ (sym (c .before .before .before .before .before .before .before .before .read .ensures) ∙ c .before .before .before .before .before .before .end .given .1) in (items-next (c .before .before .before .before .before .before .before .before .before .before .loop .inv .0) r, items-filled (c .before .before .before .before .before .before .before .before .before .before .loop .inv .0) (c .before .before .before .before .before .before .before .before .before .before .loop .inv .1) r (c .before .before .put .ensures))
+
+same-length-2 : tie.Need-same-length-2 Inv-loop μ-loop
+same-length-2 c = search needs
+
+returns-2 : tie.Need-returns-2 Inv-loop μ-loop
+returns-2 c = items-end (c .before .before .before .before .args .list .now) (c .before .loop .from) (c .before .loop .inv .1) (c .loop-test .left)
+
+pub put-items-spec : {M : Type 1} → statement M
+put-items-spec =
+    tie.close
+    (tie.spec
+    Inv-loop
+    μ-loop
+    loop-holds
+    read-requires
+    enum-known-end
+    enum-told
+    same-length
+    returns
+    add-body
+    sub-put
+    part-put-start
+    part-put-end
+    put-requires
+    loop-less
+    loop-again
+    same-length-2
+    returns-2)
