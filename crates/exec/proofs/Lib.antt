@@ -3,3 +3,4 @@ pub mod Listing
 pub mod Arguments
 pub mod Filling
 pub mod Writing
+pub mod Values

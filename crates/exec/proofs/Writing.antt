@@ -107,8 +107,11 @@ module _ {list : List ℕ} {from : ℕ} (w : Items list from) {k end : ℕ} (r :
   pub items-next : Items list end
   items-next = record { inside = r .inside; sound = next .0 }
 
+  pub items-cons : itemsAt list from ≡ part (from + 6) end list ∷ itemsAt list end
+  items-cons = ap listed step ∙ next .1
+
   pub items-here : listOf 3 (itemsAt list from) ≡ record3 (part (from + 6) end list) ++ listOf 3 (itemsAt list end)
-  items-here = rw (step, next .1) (list-of-cons 3 (part (from + 6) end list) (itemsAt list end))
+  items-here = rw items-cons (list-of-cons 3 (part (from + 6) end list) (itemsAt list end))
 
 -- ---- an output that is filled by items
 

@@ -1,13 +1,17 @@
 -- What the inner functions of this crate answer, by the definitions of a run. Assumes nothing.
 use mathlib.Core.Path.{_≡_}
-use Prim.Native.Nat.{ℕ, _+_, _-_}
+use Prim.Native.Nat.{ℕ, _+_, _-_, _≤_}
 use mathlib.Core.List.{List, []}
 use lib.ListN.{length}
 use lib.Dec.{leb}
 use Rattle.base.specs.Choice.{pick, maybe}
-use Rattle.base.specs.Over.{over}
+use Rattle.base.specs.Over.{over, atFront}
+use Rattle.fault.specs.Answer.{Answer, then}
 use Rattle.record.specs.Record.{readList, listMost}
 use Rattle.exec.specs.Run.{Put, Run, runOf}
+use Rattle.text.specs.Output.{answered}
+use Rattle.text.specs.Step.{textOf}
+use Rattle.text.specs.declared.Written.{Written}
 use Rattle.text.specs.declared.Left.{Left}
 use Rattle.text.specs.declared.Left.the-variants as left
 
@@ -28,3 +32,9 @@ putOf item name location = record { item = item; name = name; location = locatio
 pub record Wrote (s : List ℕ) (at : ℕ) (x : List ℕ) (n : ℕ) (t : List ℕ) : Type 0 where
   pub ends : n ≡ at + length x
   pub is : t ≡ over s at x
+
+-- a text was read to the start of a buffer s with room for it, which became t: how long it is, or its refusal
+pub record ReadTo (a : Answer (List ℕ)) (s : List ℕ) (r : Written) (t : List ℕ) : Type 0 where
+  pub tells : answered r ≡ then length a
+  pub is : t ≡ atFront s (textOf a)
+  pub fits : length (textOf a) ≤ length s

@@ -1,0 +1,61 @@
+// The texts that an expansion reads from the file: Exec, Name and Icon.
+use fault::Fault;
+use rows::Found;
+use text::Written;
+ghost use mathlib.Core.Path.{_≡_};
+ghost use mathlib.Core.Bool.{true};
+ghost use Prim.Native.Nat.{_≤_};
+ghost use lib.ListN.{length};
+ghost use Rattle.text.specs.Escape.{readText};
+ghost use Rattle.rows.specs.Rows.{readRows};
+ghost use Rattle.rows.specs.Find.{noneBad};
+ghost use Rattle.exec.specs.Expand as spec;
+ghost use Rattle.exec.specs.Step.{ReadTo};
+
+// The text of a raw value, to the start of a buffer that is as long at least.
+pub fn read_whole(raw: &[u8], out: &mut [u8]) -> Written
+    requires { ⌜ length (now raw) ≤ length (now out) ⌝ }
+    ensures { λ r. ⌜ ReadTo (readText (now (raw .entry))) (now (out .entry)) r (now (out .exit)) ⌝ }
+{
+    text::read_text(raw, out)
+}
+
+// The text of Name by locale, where it is wanted.
+pub fn name_text(file: &[u8], locale: &[u8], wanted: bool, out: &mut [u8]) -> Written
+    requires { ⌜ (noneBad (now file) ≡ true) × (length (now file) ≤ 32768) × (32768 ≤ length (now out)) ⌝ }
+    ensures { λ r. ⌜ ReadTo (spec.nameText (readRows (now (file .entry))) (now (locale .entry)) wanted) (now (out .entry)) r (now (out .exit)) ⌝ }
+{
+    if wanted {
+        let Found::Row {
+            line: _,
+            start: _,
+            end,
+            value,
+        } = choice::choose_row(file, b"Desktop Entry", b"Name", locale)
+        else {
+            return Written::Refused(Fault::Missing);
+        };
+        return read_whole(&file[value..end], out);
+    }
+    Written::Bytes(0)
+}
+
+// The text of a group's Icon by locale, where it is wanted; a missing one is none.
+pub fn icon_text(file: &[u8], group: &[u8], locale: &[u8], wanted: bool, out: &mut [u8]) -> Written
+    requires { ⌜ (noneBad (now file) ≡ true) × (length (now file) ≤ 32768) × (32768 ≤ length (now out)) ⌝ }
+    ensures { λ r. ⌜ ReadTo (spec.iconText (readRows (now (file .entry))) (now (group .entry)) (now (locale .entry)) wanted) (now (out .entry)) r (now (out .exit)) ⌝ }
+{
+    if wanted {
+        let Found::Row {
+            line: _,
+            start: _,
+            end,
+            value,
+        } = choice::choose_row(file, group, b"Icon", locale)
+        else {
+            return Written::Bytes(0);
+        };
+        return read_whole(&file[value..end], out);
+    }
+    Written::Bytes(0)
+}
