@@ -4,3 +4,5 @@ pub mod Arguments
 pub mod Filling
 pub mod Writing
 pub mod Values
+pub mod Asking
+pub mod Expanding

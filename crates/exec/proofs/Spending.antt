@@ -55,6 +55,13 @@ spend-was {room} {n} {m} e =
     (λ f. leb-true n room f)
     (λ f. let z : left.Bytes m ≡ left.Short = e ∙ spend-short (leb-false n room f) in no (cc))
 
+-- where it was not, it was not
+pub spend-lacks : {room n : ℕ} → left.Short ≡ spend (left.Bytes room) n → room < n
+spend-lacks {room} {n} e =
+    by-test (leb n room)
+    (λ f. let z : left.Short ≡ left.Bytes (room - n) = e ∙ spend-enough (leb-true n room f) in no (cc))
+    (λ f. leb-false n room f)
+
 -- one piece and then the others
 pub bytes-cons : (x : Put) (p : Piece) (ps : List Piece) → piecesBytes x (p ∷ ps) ≡ pieceBytes x p ++ piecesBytes x ps
 unfolding piecesBytes joined

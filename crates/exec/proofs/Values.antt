@@ -5,7 +5,7 @@ use native.Mathlib.Omega.{arith}
 use mathlib.Core.Bool.{Bool, true, false}
 use mathlib.Core.Option.{Option, none, some}
 use mathlib.Core.List.{List, [], _∷_, _++_}
-use lib.ListN.{length, take, drop}
+use lib.ListN.{length, take, drop, length-append, length-drop}
 use lib.Seq.{take-at}
 use lib.Dec.{eqb}
 use borrow.Author.Tests.{le-leb}
@@ -13,6 +13,7 @@ use Rattle.base.specs.Choice.{pick, maybe}
 use Rattle.base.specs.Lists.{ascii, part}
 use Rattle.base.specs.Over.{atFront}
 use Rattle.base.proofs.Lists.{length-part}
+use Rattle.base.proofs.Tests.{no}
 use Rattle.fault.specs.declared.Fault.{Fault}
 use Rattle.fault.specs.declared.Fault.the-variants.{BadEscape, Missing}
 use Rattle.fault.specs.Answer.{Answer, given, refused, then}
@@ -65,6 +66,19 @@ read-le raw = text-le _ raw false 0
 pub read-room : (a : Answer (List ℕ)) (s : List ℕ) {r : Written} {t : List ℕ} → length (textOf a) ≤ length s → (answered r ≡ told a s) × (t ≡ held a s) → ReadTo a s r t
 read-room (given x) s h p = record { tells = p .0 ∙ rw (le-leb (length x) (length s) h); is = p .1 ∙ rw (le-leb (length x) (length s) h); fits = h }
 read-room (refused f) s h p = record { tells = p .0; is = p .1; fits = h }
+
+-- the text is the buffer's front, as long as was told; or the refusal is the text's
+pub read-given : (a : Answer (List ℕ)) {s t : List ℕ} {n : ℕ} → ReadTo a s (written.Bytes n) t → (a ≡ given (take n t)) × (n ≤ length t)
+read-given (given x) {s} {t} {n} w =
+    let i = w .tells in
+    let l : n ≡ length x = cc in
+    let d = length-drop (length x) s in
+    (rw (w .is, take-at x (drop (length x) s) n (sym l)), rw (w .is, length-append x (drop (length x) s)) (omega arith))
+read-given (refused f) w = let i = w .tells in no (cc)
+
+pub read-refuses : (a : Answer (List ℕ)) {s t : List ℕ} {f : Fault} → ReadTo a s (written.Refused f) t → a ≡ refused f
+read-refuses (given x) w = let i = w .tells in no (cc)
+read-refuses (refused g) w = let i = w .tells in cc
 
 -- nothing is read, or nothing could be
 pub read-none : (s : List ℕ) → ReadTo (given []) s (written.Bytes 0) s

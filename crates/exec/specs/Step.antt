@@ -6,9 +6,11 @@ use lib.ListN.{length}
 use lib.Dec.{leb}
 use Rattle.base.specs.Choice.{pick, maybe}
 use Rattle.base.specs.Over.{over, atFront}
-use Rattle.fault.specs.Answer.{Answer, then}
+use Rattle.fault.specs.Answer.{Answer, given, refused, then}
 use Rattle.record.specs.Record.{readList, listMost}
 use Rattle.exec.specs.Run.{Put, Run, runOf}
+use Rattle.exec.specs.declared.Counted.{Counted}
+use Rattle.exec.specs.declared.Counted.the-variants as counted
 use Rattle.text.specs.Output.{answered}
 use Rattle.text.specs.Step.{textOf}
 use Rattle.text.specs.declared.Written.{Written}
@@ -38,3 +40,8 @@ pub record ReadTo (a : Answer (List ℕ)) (s : List ℕ) (r : Written) (t : List
   pub tells : answered r ≡ then length a
   pub is : t ≡ atFront s (textOf a)
   pub fits : length (textOf a) ≤ length s
+
+-- what was asked: how many items, or the refusal
+abbrev pub askedAs : Counted → Answer ℕ
+askedAs (counted.Items n) = given n
+askedAs (counted.Refused f) = refused f

@@ -3,3 +3,137 @@ mod asked; // asked.rt: the list and the location
 mod measure; // measure.rt: how much room a run's records take
 mod texts; // texts.rt: Exec, Name and Icon
 mod write; // write.rt: the records of a run
+
+use command::Checked;
+use command::Seen;
+use fault::Fault;
+use record::Bounds;
+use record::Filled;
+use rows::Found;
+use text::Left;
+use text::Written;
+use wellformed::Checked as FileChecked;
+ghost use mathlib.Core.Path.{_≡_};
+ghost use mathlib.Core.Bool.{true};
+ghost use mathlib.Core.List.{[]};
+ghost use Prim.Native.Nat.{_≤_};
+ghost use lib.ListN.{length, getD};
+ghost use lib.Dec.{ltb};
+ghost use Rattle.base.specs.Choice.{there};
+ghost use Rattle.fault.specs.Answer.{given, then};
+ghost use Rattle.record.specs.Record.{readList, listMost, listOf};
+ghost use Rattle.text.specs.Output.{answered, told, held};
+ghost use Rattle.rows.specs.Rows.{readRows};
+ghost use Rattle.rows.specs.Find.{noneBad};
+ghost use Rattle.command.specs.Command.{argumentsIn};
+ghost use Rattle.command.specs.Step.{codesIn};
+ghost use Rattle.exec.specs.Run as run;
+ghost use Rattle.exec.specs.Expand as spec;
+ghost use Rattle.exec.specs.Step as step;
+
+// What was asked: how many items there are, or the refusal.
+pub enum Counted {
+    Items(usize),
+    Refused(Fault),
+}
+
+// The file, the list, the locale, the items and the location: 1 to 6, 14, 7, 10.
+fn ask(file: &[u8], locale: &[u8], location: &[u8], list: &[u8]) -> Counted
+    ensures { λ r. ⌜ step.askedAs r ≡ then length (spec.askedItems (now (file .entry)) (now (locale .entry)) (now (location .entry)) (now (list .entry))) ⌝ }
+{
+    match wellformed::check(file) {
+        FileChecked::Refused(f) => Counted::Refused(f),
+        FileChecked::Sound => {
+            let Filled::Records(n) = record::count(list, 2, 65536) else {
+                return Counted::Refused(Fault::Damaged);
+            };
+            if line::form::is_locale(locale) {
+                if asked::are_fit(list) {
+                    if asked::is_fit_location(location) {
+                        return Counted::Items(n);
+                    }
+                    return Counted::Refused(Fault::UnfitText);
+                }
+                return Counted::Refused(Fault::UnfitText);
+            }
+            Counted::Refused(Fault::BadArgument)
+        }
+    }
+}
+
+// Whether a run is among those that so many items give.
+fn in_runs(n: usize, item: bool, count: usize) -> bool
+    ensures { λ r. ⌜ r ≡ ltb n (run.runsOf item count) ⌝ }
+{
+    if count == 0 {
+        return n < 1;
+    }
+    if item {
+        return n < count;
+    }
+    n < 1
+}
+
+// The item of a run; empty if there is none.
+fn item_at(list: &[u8], n: usize) -> &[u8]
+    requires { ⌜ there (readList 2 listMost (now list)) ≡ true ⌝ }
+    ensures { λ r. ⌜ now r ≡ getD (step.itemsIn (now (list .entry))) n [] ⌝ }
+{
+    let Bounds::Body { from, to } = record::nth(list, n) else {
+        return &list[..0];
+    };
+    &list[from..to]
+}
+
+// The records of a run's arguments, if there is room for them: 11.
+fn write_run(exec: &[u8], item: &[u8], list: &[u8], name: &[u8], icon: &[u8], location: &[u8], out: &mut [u8]) -> Written
+    requires { ⌜ (length (now exec) ≤ 32768) × (there (readList 2 listMost (now list)) ≡ true) ⌝ }
+    ensures answer { λ r. ⌜ answered r ≡ told (given (listOf 3 (run.expandedAll
+        (run.runOf (step.putOf (now (item .entry)) (now (name .entry)) (now (location .entry))) (step.itemsIn (now (list .entry))) (now (icon .entry)))
+        (argumentsIn (now (exec .entry)))))) (now (out .entry)) ⌝ }
+    ensures output { λ _. ⌜ now (out .exit) ≡ held (given (listOf 3 (run.expandedAll
+        (run.runOf (step.putOf (now (item .entry)) (now (name .entry)) (now (location .entry))) (step.itemsIn (now (list .entry))) (now (icon .entry)))
+        (argumentsIn (now (exec .entry)))))) (now (out .entry)) ⌝ }
+{
+    match measure::run_left(exec, item, list, name, icon, location, out.len()) {
+        Left::Short => Written::Refused(Fault::NoRoom),
+        Left::Bytes(_) => Written::Bytes(write::put_run(out, exec, item, list, name, icon, location)),
+    }
+}
+
+// A run of a command, with the Icon of a group: 8, then Name's refusal, then Icon's, then 11.
+fn run_command(
+    exec: &[u8],
+    seen: Seen,
+    file: &[u8],
+    group: &[u8],
+    locale: &[u8],
+    location: &[u8],
+    list: &[u8],
+    count: usize,
+    n: usize,
+    out: &mut [u8],
+) -> Written
+    requires { ⌜ (length (now exec) ≤ 32768) × (seen ≡ codesIn (argumentsIn (now exec))) × (noneBad (now file) ≡ true) × (length (now file) ≤ 32768)
+        × (there (readList 2 listMost (now list)) ≡ true) × (count ≡ length (step.itemsIn (now list))) ⌝ }
+    ensures answer { λ r. ⌜ answered r ≡ told (then (listOf 3) (spec.runArguments (argumentsIn (now (exec .entry))) (readRows (now (file .entry))) (now (group .entry))
+        (now (locale .entry)) (now (location .entry)) (step.itemsIn (now (list .entry))) n)) (now (out .entry)) ⌝ }
+    ensures output { λ _. ⌜ now (out .exit) ≡ held (then (listOf 3) (spec.runArguments (argumentsIn (now (exec .entry))) (readRows (now (file .entry))) (now (group .entry))
+        (now (locale .entry)) (now (location .entry)) (step.itemsIn (now (list .entry))) n)) (now (out .entry)) ⌝ }
+{
+    if in_runs(n, seen.item, count) {
+        let mut name = [0u8; 32768];
+        let named = texts::name_text(file, locale, seen.name, &mut name);
+        let Written::Bytes(name_end) = named else {
+            return named;
+        };
+        let mut icon = [0u8; 32768];
+        let pictured = texts::icon_text(file, group, locale, seen.icon, &mut icon);
+        let Written::Bytes(icon_end) = pictured else {
+            return pictured;
+        };
+        let item = item_at(list, n);
+        return write_run(exec, item, list, &name[..name_end], &icon[..icon_end], location, out);
+    }
+    Written::Refused(Fault::Missing)
+}

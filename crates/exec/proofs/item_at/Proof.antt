@@ -1,0 +1,44 @@
+-- `item_at` meets its contract: the record that is found holds the item. Assumes nothing.
+use mathlib.Core.Path.{sym, _∙_}
+use lib.ListN.{List·getD-eq-default}
+use Rattle.record.specs.Record.{listMost}
+use Rattle.record.proofs.Bodies.{list-cut}
+use Rattle.record.proofs.Seek.{nth-body, nth-past}
+use Rattle.exec.specs.Step.{itemsIn}
+use Rattle.exec.proofs.Asking.{reads-some}
+use mathlib.Core.List.{[]}
+use borrow.Author.Needs.{needs}
+use Rattle.exec.proofs.item_at.Statement.{statement}
+use Rattle.exec.proofs.item_at.Tie as tie
+
+nth-requires : tie.Need-nth-requires
+nth-requires c κs = list-cut 2 listMost (c .before .args .list .now) (reads-some (c .before .args .list .now) (c .before .pre))
+
+returns : tie.Need-returns
+returns c = sym (List·getD-eq-default (itemsIn (c .before .before .before .before .before .args .list .now)) [] (nth-past 2 listMost (c .before .before .before .before .before .args .list .now) (c .before .before .before .before .before .args .n) (reads-some (c .before .before .before .before .before .args .list .now) (c .before .before .before .before .before .pre)) (sym (c .before .before .before .nth .ensures) ∙ c .before .enum-told .given .1)))
+
+sub-result : tie.Need-sub-result
+sub-result c = nth-body 2 listMost (c .before .before .before .before .before .args .list .now) (c .before .before .before .before .before .args .n) (reads-some (c .before .before .before .before .before .args .list .now) (c .before .before .before .before .before .pre)) (sym (c .before .before .before .nth .ensures) ∙ c .before .from .given .1) .ordered
+
+part-result-start : tie.Need-part-result-start
+part-result-start c = nth-body 2 listMost (c .before .before .before .before .before .args .list .now) (c .before .before .before .before .before .args .n) (reads-some (c .before .before .before .before .before .args .list .now) (c .before .before .before .before .before .pre)) (sym (c .before .before .before .nth .ensures) ∙ c .before .from .given .1) .ordered
+
+part-result-end : tie.Need-part-result-end
+part-result-end c = nth-body 2 listMost (c .before .before .before .before .before .args .list .now) (c .before .before .before .before .before .args .n) (reads-some (c .before .before .before .before .before .args .list .now) (c .before .before .before .before .before .pre)) (sym (c .before .before .before .nth .ensures) ∙ c .before .from .given .1) .inside
+
+returns-2 : tie.Need-returns-2
+returns-2 c = nth-body 2 listMost (c .before .before .before .before .before .before .args .list .now) (c .before .before .before .before .before .before .args .n) (reads-some (c .before .before .before .before .before .before .args .list .now) (c .before .before .before .before .before .before .pre)) (sym (c .before .before .before .before .nth .ensures) ∙ c .before .before .from .given .1) .body
+
+pub item-at-spec : {M : Type 1} → statement M
+item-at-spec =
+    tie.close
+    (tie.spec
+    nth-requires
+    (λ c. search needs)
+    (λ c. search needs)
+    (λ c. search needs)
+    returns
+    sub-result
+    part-result-start
+    part-result-end
+    returns-2)

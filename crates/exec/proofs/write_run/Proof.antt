@@ -1,0 +1,39 @@
+-- `write_run` meets its contract: the room left says whether the records are written. Assumes nothing.
+use mathlib.Core.Path.{refl, sym, _∙_}
+use Rattle.fault.specs.Answer.{given}
+use Rattle.text.proofs.OutputLaws.{leaves-full, leaves-written}
+use Rattle.command.specs.Command.{argumentsIn}
+use Rattle.exec.specs.Run.{runOf}
+use Rattle.exec.specs.Step.{putOf, itemsIn}
+use Rattle.exec.proofs.Spending.{spend-was, spend-lacks}
+use Rattle.exec.proofs.Arguments.{recordsOf}
+use borrow.Author.Needs.{needs}
+use Rattle.exec.proofs.write_run.Statement.{statement}
+use Rattle.exec.proofs.write_run.Tie as tie
+
+put-run-requires : tie.Need-put-run-requires
+put-run-requires c κs = (c .before .before .before .before .before .before .before .before .before .before .before .pre .0, c .before .before .before .before .before .before .before .before .before .before .before .pre .1, spend-was (sym (c .before .enum-told2 .given .1) ∙ c .before .before .before .run-left .ensures))
+
+returns : tie.Need-returns
+returns c = 
+    let a = c .before .before .before .before .before .before .before .before .before .before .args in
+    let x = recordsOf (runOf (putOf (a .item .now) (a .name .now) (a .location .now)) (itemsIn (a .list .now)) (a .icon .now)) (argumentsIn (a .exec .now)) in
+    leaves-full (given x) (a .out .now) refl (spend-lacks (sym (c .enum-told .given .1) ∙ c .before .before .run-left .ensures))
+
+returns-2 : tie.Need-returns-2
+returns-2 c = 
+    let a = c .before .before .before .before .before .before .before .before .before .before .before .before .before .before .args in
+    let x = recordsOf (runOf (putOf (a .item .now) (a .name .now) (a .location .now)) (itemsIn (a .list .now)) (a .icon .now)) (argumentsIn (a .exec .now)) in
+    leaves-written (given x) (a .out .now) refl (spend-was (sym (c .before .before .before .before .enum-told2 .given .1) ∙ c .before .before .before .before .before .before .run-left .ensures)) (c .before .before .put-run .ensures)
+
+pub write-run-spec : {M : Type 1} → statement M
+write-run-spec =
+    tie.close
+    (tie.spec
+    (λ c κs. search needs)
+    (λ c. search needs)
+    (λ c. search needs)
+    put-run-requires
+    returns
+    (λ c. search needs)
+    returns-2)
