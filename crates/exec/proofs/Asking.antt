@@ -48,6 +48,7 @@ asked-given file locale location list {n} h =
           counts = rw r (cc);
           is = rw (← c, r, l, f);
         }
+
     go : (a : Answer (Unit {0})) (o : Option (List (List ℕ))) → check file ≡ a → readList 2 listMost list ≡ o
         → given n ≡ then length (a >>= λ _. (some-or o Damaged >>= λ items. (need (localeForm locale) BadArgument >>= λ _. (need (all fitItem items && fitLocation location) UnfitText >>= λ _. given items))))
         → Granted file locale location list n

@@ -1,25 +1,35 @@
 -- An expansion, way by way: which answer the definition has, and what is told and left. Assumes nothing.
 use mathlib.Core.Path.{_≡_, refl, sym, ap, _∙_}
-use Prim.Native.Nat.{ℕ}
+use Prim.Native.Nat.{ℕ, _≤_}
+use native.Mathlib.Omega.{arith}
 use mathlib.Core.Bool.{Bool, true, false}
+use mathlib.Core.Option.{Option, none, some}
 use mathlib.Core.List.{List, []}
 use lib.ListN.{length, getD}
 use lib.Dec.{ltb}
-use Rattle.base.specs.Lists.{any}
+use Rattle.base.specs.Lists.{ascii, part, any}
+use Rattle.base.proofs.Tests.{no}
 use Rattle.fault.specs.declared.Fault.{Fault}
 use Rattle.fault.specs.declared.Fault.the-variants.{Missing}
-use Rattle.fault.specs.Answer.{Answer, given, refused, then}
+use Rattle.fault.specs.Answer.{Answer, given, refused, _>>=_, unless, then}
 use Rattle.record.specs.Record.{listOf}
+use Rattle.text.specs.Escape.{readText}
 use Rattle.text.specs.declared.Written.the-variants as written
 use Rattle.text.proofs.OutputLaws.{Leaves, leaves-refused}
-use Rattle.rows.specs.Rows.{Row}
-use Rattle.command.specs.Command.{Argument, hasPiece, isItem, isName, isIcon}
+use Rattle.rows.specs.Rows.{Row, readRows}
+use Rattle.rows.specs.Title.{Key, findRow, desktopEntry}
+use Rattle.rows.specs.Find.{toldOf}
+use Rattle.rows.specs.declared.Found.the-variants as found
+use Rattle.rows.proofs.Told.{told-nothing}
+use Rattle.command.specs.Words.{words}
+use Rattle.command.specs.Command.{Argument, hasPiece, isItem, isName, isIcon, wordsFault, argumentsIn, readCommand}
 use Rattle.command.specs.Step.{codesIn}
 use Rattle.command.specs.declared.Seen.{Seen}
 use Rattle.exec.specs.Run.{runOf, expandedAll, runsOf, runs}
-use Rattle.exec.specs.Expand.{nameText, iconText, runArguments}
-use Rattle.exec.specs.Step.{putOf, ReadTo}
-use Rattle.exec.proofs.Values.{read-refuses}
+use Rattle.exec.specs.Expand.{nameText, iconText, runArguments, groupArguments, askedItems, expand}
+use Rattle.exec.specs.Step.{putOf, itemsIn, ReadTo}
+use Rattle.exec.proofs.Values.{read-refuses, read-le, Value, value-short}
+use Rattle.exec.proofs.Asking.{Granted}
 
 -- a refusal, with the arguments as records or not
 pub refused-leaves : {a : Answer (List (List ℕ))} {f : Fault} (out : List ℕ) → a ≡ refused f → Leaves (then (listOf 3) a) out (refused f) out
@@ -61,3 +71,70 @@ module _ (args : List Argument) (rs : List Row) (group locale location : List �
       pub run-given : {icon : List ℕ} → iconText rs group locale (seen .icon) ≡ given icon → answer ≡ given (expandedAll (runOf (putOf (getD items run []) name location) items icon) args)
       unfolding runArguments runs
       run-given i = rw (← item-seen, ← k, t, ← name-seen, n, ← icon-seen, i)
+
+-- ---- the Exec of a group
+
+-- what a check of a command says of its reading
+command-wrong : (x : List ℕ) {f : Fault} → refused f ≡ then codesIn (readCommand x) → readCommand x ≡ refused f
+command-wrong x = go (readCommand x)
+  where
+    go : (a : Answer (List Argument)) {f : Fault} → refused f ≡ then codesIn a → a ≡ refused f
+    go (given args) e = no (cc)
+    go (refused g) e = cc
+
+command-right : (x : List ℕ) {s : Seen} → given s ≡ then codesIn (readCommand x) → (readCommand x ≡ given (argumentsIn x)) × (s ≡ codesIn (argumentsIn x))
+unfolding readCommand
+command-right x {s} = go (wordsFault true false (words x))
+  where
+    go : (o : Option Fault) → given s ≡ then codesIn (unless o >>= λ _. given (argumentsIn x)) → ((unless o >>= λ _. given (argumentsIn x)) ≡ given (argumentsIn x)) × (s ≡ codesIn (argumentsIn x))
+    go none e = (refl, cc)
+    go (some f) e = no (cc)
+
+module _ (file group locale location : List ℕ) (items : List (List ℕ)) (run : ℕ) where
+  abbrev ofGroup : Answer (List (List ℕ))
+  ofGroup = groupArguments (readRows file) group locale location items run
+
+  abbrev execRow : Option Row
+  execRow = findRow (readRows file) (Key group (ascii "Exec"))
+
+  pub group-missing : toldOf execRow ≡ found.Nothing → ofGroup ≡ refused Missing
+  unfolding groupArguments
+  group-missing i = rw (told-nothing execRow i)
+
+  module _ {v e : ℕ} (w : Value execRow file v e) where
+    pub group-unread : {s u : List ℕ} {f : Fault} → ReadTo (readText (part v e file)) s (written.Refused f) u → ofGroup ≡ refused f
+    unfolding groupArguments
+    group-unread r = rw (w .is, ← w .bytes, read-refuses (readText (part v e file)) r)
+
+    module _ {text : List ℕ} (t : readText (part v e file) ≡ given text) where
+      pub group-short : length text ≤ length file
+      group-short = omega (arith, rw t at (read-le (part v e file)), value-short w)
+
+      pub group-wrong : {f : Fault} → refused f ≡ then codesIn (readCommand text) → ofGroup ≡ refused f
+      unfolding groupArguments
+      group-wrong c = rw (w .is, ← w .bytes, t, command-wrong text c)
+
+      pub group-right : {s : Seen} → given s ≡ then codesIn (readCommand text)
+          → (ofGroup ≡ runArguments (argumentsIn text) (readRows file) group locale location items run) × (s ≡ codesIn (argumentsIn text))
+      unfolding groupArguments
+      group-right c = let g = command-right text c in (rw (w .is, ← w .bytes, t, g .0), g .1)
+
+-- ---- the whole
+
+module _ (file locale location list : List ℕ) (run : ℕ) where
+  pub expand-refused : {f : Fault} → refused f ≡ then length (askedItems file locale location list) → expand file locale location list run ≡ refused f
+  unfolding expand
+  expand-refused e = rw (asked-refused (askedItems file locale location list) e)
+    where
+      asked-refused : (a : Answer (List (List ℕ))) {f : Fault} → refused f ≡ then length a → a ≡ refused f
+      asked-refused (given items) e = no (cc)
+      asked-refused (refused g) e = cc
+
+  pub expand-granted : {n : ℕ} → Granted file locale location list n
+      → expand file locale location list run ≡ then (listOf 3) (groupArguments (readRows file) desktopEntry locale location (itemsIn list) run)
+  unfolding expand
+  expand-granted g = rw (g .is) (go (groupArguments (readRows file) desktopEntry locale location (itemsIn list) run))
+    where
+      go : (a : Answer (List (List ℕ))) → (a >>= λ args. given (listOf 3 args)) ≡ then (listOf 3) a
+      go (given args) = refl
+      go (refused f) = refl

@@ -125,6 +125,11 @@ chosen-value file group key locale {n} {p} {e} {v} i =
     let f = first-chosen (readRows file) group key locale (a .0) (a .1) in
     row-value file (Key group (f .key)) (chosen (readRows file) group key locale) (a .0) (a .1) (f .found) (a .2)
 
+-- its text, read to a buffer
+pub text-given : {o : Option Row} {file : List ℕ} {v e : ℕ} → Value o file v e → {s t : List ℕ} {n : ℕ} → ReadTo (readText (part v e file)) s (written.Bytes n) t
+    → (readText (part v e file) ≡ given (take n t)) × (n ≤ length t)
+text-given {file = file} {v = v} {e = e} w r = read-given (readText (part v e file)) r
+
 -- ---- Name and Icon
 
 module _ (file locale : List ℕ) where

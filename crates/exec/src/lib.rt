@@ -86,7 +86,15 @@ fn item_at(list: &[u8], n: usize) -> &[u8]
 }
 
 // The records of a run's arguments, if there is room for them: 11.
-fn write_run(exec: &[u8], item: &[u8], list: &[u8], name: &[u8], icon: &[u8], location: &[u8], out: &mut [u8]) -> Written
+fn write_run(
+    exec: &[u8],
+    item: &[u8],
+    list: &[u8],
+    name: &[u8],
+    icon: &[u8],
+    location: &[u8],
+    out: &mut [u8],
+) -> Written
     requires { ⌜ (length (now exec) ≤ 32768) × (there (readList 2 listMost (now list)) ≡ true) ⌝ }
     ensures answer { λ r. ⌜ answered r ≡ told (given (listOf 3 (run.expandedAll
         (run.runOf (step.putOf (now (item .entry)) (now (name .entry)) (now (location .entry))) (step.itemsIn (now (list .entry))) (now (icon .entry)))
@@ -97,7 +105,15 @@ fn write_run(exec: &[u8], item: &[u8], list: &[u8], name: &[u8], icon: &[u8], lo
 {
     match measure::run_left(exec, item, list, name, icon, location, out.len()) {
         Left::Short => Written::Refused(Fault::NoRoom),
-        Left::Bytes(_) => Written::Bytes(write::put_run(out, exec, item, list, name, icon, location)),
+        Left::Bytes(_) => Written::Bytes(write::put_run(
+            out,
+            exec,
+            item,
+            list,
+            name,
+            icon,
+            location,
+        )),
     }
 }
 
@@ -133,7 +149,93 @@ fn run_command(
             return pictured;
         };
         let item = item_at(list, n);
-        return write_run(exec, item, list, &name[..name_end], &icon[..icon_end], location, out);
+        return write_run(
+            exec,
+            item,
+            list,
+            &name[..name_end],
+            &icon[..icon_end],
+            location,
+            out,
+        );
     }
     Written::Refused(Fault::Missing)
+}
+
+// A run of the Exec in a group of a well-formed file, for a list of so many items: 8, 9, 15 and 16 by lowest place, and the run's refusals.
+fn expand_group(
+    file: &[u8],
+    group: &[u8],
+    locale: &[u8],
+    location: &[u8],
+    list: &[u8],
+    count: usize,
+    n: usize,
+    out: &mut [u8],
+) -> Written
+    requires { ⌜ (noneBad (now file) ≡ true) × (length (now file) ≤ 32768) × (there (readList 2 listMost (now list)) ≡ true) × (count ≡ length (step.itemsIn (now list))) ⌝ }
+    ensures answer { λ r. ⌜ answered r ≡ told (then (listOf 3) (spec.groupArguments (readRows (now (file .entry))) (now (group .entry))
+        (now (locale .entry)) (now (location .entry)) (step.itemsIn (now (list .entry))) n)) (now (out .entry)) ⌝ }
+    ensures output { λ _. ⌜ now (out .exit) ≡ held (then (listOf 3) (spec.groupArguments (readRows (now (file .entry))) (now (group .entry))
+        (now (locale .entry)) (now (location .entry)) (step.itemsIn (now (list .entry))) n)) (now (out .entry)) ⌝ }
+{
+    let Found::Row {
+        line: _,
+        start: _,
+        end,
+        value,
+    } = rows::find_key(file, group, b"Exec")
+    else {
+        return Written::Refused(Fault::Missing);
+    };
+    let mut exec = [0u8; 32768];
+    let read = texts::read_whole(&file[value..end], &mut exec);
+    let Written::Bytes(exec_end) = read else {
+        return read;
+    };
+    match command::check_command(&exec[..exec_end]) {
+        Checked::Refused(f) => Written::Refused(f),
+        Checked::Sound(seen) => run_command(
+            &exec[..exec_end],
+            seen,
+            file,
+            group,
+            locale,
+            location,
+            list,
+            count,
+            n,
+            out,
+        ),
+    }
+}
+
+// The arguments of a run of a file's Exec as records of kind 3: 1 to 6, 14, 7, 10, 8, 9, 15 and 16 by lowest place, 8 for the run, the refusals of
+// Name and Icon, 11.
+pub fn expand(
+    file: &[u8],
+    locale: &[u8],
+    location: &[u8],
+    list: &[u8],
+    n: usize,
+    out: &mut [u8],
+) -> Written
+    ensures answer { λ r. ⌜ answered r ≡ told (spec.expand (now (file .entry)) (now (locale .entry)) (now (location .entry)) (now (list .entry)) n) (now (out .entry)) ⌝ }
+    ensures output { λ _. ⌜ now (out .exit) ≡ held (spec.expand (now (file .entry)) (now (locale .entry)) (now (location .entry)) (now (list .entry)) n) (now (out .entry)) ⌝ }
+{
+    match ask(file, locale, location, list) {
+        Counted::Refused(f) => Written::Refused(f),
+        Counted::Items(count) => {
+            expand_group(
+                file,
+                b"Desktop Entry",
+                locale,
+                location,
+                list,
+                count,
+                n,
+                out,
+            )
+        }
+    }
 }

@@ -16,21 +16,21 @@ are-fit-requires c κs = let k = count-reads 2 65536 (c .before .before .before 
 
 returns-2 : tie.Need-returns-2
 unfolding askedItems
-returns-2 c = 
+returns-2 c =
     let k = count-reads 2 65536 (c .before .before .before .before .before .before .before .before .before .before .before .before .before .before .before .before .before .args .list .now) (sym (c .before .before .before .before .before .before .before .before .before .count .ensures) ∙ c .before .before .before .before .before .before .before .n .given .1) in
     let f = rw (k .1) at (sym (c .before .before .before .are-fit .ensures) ∙ c .before .before .if2 .taken) in
     rw (sym (c .before .before .before .before .before .before .before .before .before .before .before .before .check .ensures) ∙ ap pass.answered (c .before .before .before .before .before .before .before .before .before .before .enum-told .given .1), k .1, sym (c .before .before .before .before .before .is-locale .ensures) ∙ c .before .before .before .before .if1 .taken, f, sym (c .before .is-fit-location .ensures) ∙ c .if3 .taken, k .2)
 
 returns-3 : tie.Need-returns-3
 unfolding askedItems
-returns-3 c = 
+returns-3 c =
     let k = count-reads 2 65536 (c .before .before .before .before .before .before .before .before .before .before .before .before .before .before .before .before .before .args .list .now) (sym (c .before .before .before .before .before .before .before .before .before .count .ensures) ∙ c .before .before .before .before .before .before .before .n .given .1) in
     let f = rw (k .1) at (sym (c .before .before .before .are-fit .ensures) ∙ c .before .before .if2 .taken) in
     rw (sym (c .before .before .before .before .before .before .before .before .before .before .before .before .check .ensures) ∙ ap pass.answered (c .before .before .before .before .before .before .before .before .before .before .enum-told .given .1), k .1, sym (c .before .before .before .before .before .is-locale .ensures) ∙ c .before .before .before .before .if1 .taken, f, sym (c .before .is-fit-location .ensures) ∙ c .if3 .left)
 
 returns-4 : tie.Need-returns-4
 unfolding askedItems
-returns-4 c = 
+returns-4 c =
     let k = count-reads 2 65536 (c .before .before .before .before .before .before .before .before .before .before .before .before .before .before .before .args .list .now) (sym (c .before .before .before .before .before .before .before .count .ensures) ∙ c .before .before .before .before .before .n .given .1) in
     let f = rw (k .1) at (sym (c .before .are-fit .ensures) ∙ c .if2 .left) in
     rw (sym (c .before .before .before .before .before .before .before .before .before .before .check .ensures) ∙ ap pass.answered (c .before .before .before .before .before .before .before .before .enum-told .given .1), k .1, sym (c .before .before .before .is-locale .ensures) ∙ c .before .before .if1 .taken, f)
@@ -41,7 +41,7 @@ returns-5 c = rw (sym (c .before .before .before .check .ensures) ∙ ap pass.an
 
 returns-6 : tie.Need-returns-6
 unfolding askedItems
-returns-6 c = 
+returns-6 c =
     let k = count-reads 2 65536 (c .before .before .before .before .before .before .before .before .before .before .before .before .before .args .list .now) (sym (c .before .before .before .before .before .count .ensures) ∙ c .before .before .before .n .given .1) in
     rw (sym (c .before .before .before .before .before .before .before .before .check .ensures) ∙ ap pass.answered (c .before .before .before .before .before .before .enum-told .given .1), k .1, sym (c .before .is-locale .ensures) ∙ c .if1 .left)
 

@@ -13,20 +13,20 @@ use Rattle.exec.proofs.run_command.Statement.{statement}
 use Rattle.exec.proofs.run_command.Tie as tie
 
 returns : tie.Need-returns
-returns c = 
+returns c =
     let a = c .before .before .before .before .before .before .before .before .before .before .before .before .before .before .args in
     rw (c .enum-told .given .1)
     (refused-leaves (a .out .now) (run-unnamed (argumentsIn (a .exec .now)) (readRows (a .file .now)) (a .group .now) (a .locale .now) (a .location .now) (itemsIn (a .list .now)) (a .n) (c .before .before .before .before .before .before .before .before .before .before .before .before .before .before .pre .1) (c .before .before .before .before .before .before .before .before .before .before .before .before .before .before .pre .5) (sym (c .before .before .before .before .before .before .in-runs .ensures) ∙ c .before .before .before .before .before .if1 .taken) (rw (c .enum-told .given .1) at (c .before .before .before .name-text .ensures))))
 
 returns-2 : tie.Need-returns-2
-returns-2 c = 
+returns-2 c =
     let a = c .before .before .before .before .before .before .before .before .before .before .before .before .before .before .before .before .before .before .before .before .args in
     let n = read-given (nameText (readRows (a .file .now)) (a .locale .now) (a .seen .name)) (rw (c .before .before .before .before .before .before .named .given .1) at (c .before .before .before .before .before .before .before .before .before .name-text .ensures)) in
     rw (c .enum-told2 .given .1)
     (refused-leaves (a .out .now) (run-unpictured (argumentsIn (a .exec .now)) (readRows (a .file .now)) (a .group .now) (a .locale .now) (a .location .now) (itemsIn (a .list .now)) (a .n) (c .before .before .before .before .before .before .before .before .before .before .before .before .before .before .before .before .before .before .before .before .pre .1) (c .before .before .before .before .before .before .before .before .before .before .before .before .before .before .before .before .before .before .before .before .pre .5) (sym (c .before .before .before .before .before .before .before .before .before .before .before .before .in-runs .ensures) ∙ c .before .before .before .before .before .before .before .before .before .before .before .if1 .taken) (n .0) (rw (c .enum-told2 .given .1) at (c .before .before .before .icon-text .ensures))))
 
 array-share-prefix-name : tie.Need-array-share-prefix-name
-array-share-prefix-name c = 
+array-share-prefix-name c =
     let a = c .before .before .before .before .before .before .before .before .before .before .before .before .before .before .before .before .before .before .before .before .before .before .args in
     read-given (nameText (readRows (a .file .now)) (a .locale .now) (a .seen .name)) (rw (c .before .before .before .before .before .before .before .before .named .given .1) at (c .before .before .before .before .before .before .before .before .before .before .before .name-text .ensures)) .1
 
@@ -34,7 +34,7 @@ slice-aggregate-write-run : tie.Need-slice-aggregate-write-run
 slice-aggregate-write-run c = sym (length-take-le _ _ (array-share-prefix-name (c .before)))
 
 array-share-prefix-icon : tie.Need-array-share-prefix-icon
-array-share-prefix-icon c = 
+array-share-prefix-icon c =
     let a = c .before .before .before .before .before .before .before .before .before .before .before .before .before .before .before .before .before .before .before .before .before .before .before .args in
     read-given (iconText (readRows (a .file .now)) (a .group .now) (a .locale .now) (a .seen .icon)) (rw (c .before .before .before .pictured .given .1) at (c .before .before .before .before .before .before .icon-text .ensures)) .1
 
@@ -42,14 +42,14 @@ slice-aggregate-write-run-2 : tie.Need-slice-aggregate-write-run-2
 slice-aggregate-write-run-2 c = sym (length-take-le _ _ (array-share-prefix-icon (c .before)))
 
 returns-3 : tie.Need-returns-3
-returns-3 c = 
+returns-3 c =
     let a = c .before .before .before .before .before .before .before .before .before .before .before .before .before .before .before .before .before .before .before .before .before .before .before .before .before .before .before .before .args in
     let n = read-given (nameText (readRows (a .file .now)) (a .locale .now) (a .seen .name)) (rw (c .before .before .before .before .before .before .before .before .before .before .before .before .before .before .named .given .1) at (c .before .before .before .before .before .before .before .before .before .before .before .before .before .before .before .before .before .name-text .ensures)) in
     let i = read-given (iconText (readRows (a .file .now)) (a .group .now) (a .locale .now) (a .seen .icon)) (rw (c .before .before .before .before .before .before .before .before .pictured .given .1) at (c .before .before .before .before .before .before .before .before .before .before .before .icon-text .ensures)) in
     rw (run-given (argumentsIn (a .exec .now)) (readRows (a .file .now)) (a .group .now) (a .locale .now) (a .location .now) (itemsIn (a .list .now)) (a .n) (c .before .before .before .before .before .before .before .before .before .before .before .before .before .before .before .before .before .before .before .before .before .before .before .before .before .before .before .before .pre .1) (c .before .before .before .before .before .before .before .before .before .before .before .before .before .before .before .before .before .before .before .before .before .before .before .before .before .before .before .before .pre .5) (sym (c .before .before .before .before .before .before .before .before .before .before .before .before .before .before .before .before .before .before .before .before .in-runs .ensures) ∙ c .before .before .before .before .before .before .before .before .before .before .before .before .before .before .before .before .before .before .before .if1 .taken) (n .0) (i .0), ← c .before .before .before .before .before .before .item-at .ensures) (c .before .before .write-run .ensures)
 
 returns-4 : tie.Need-returns-4
-returns-4 c = 
+returns-4 c =
     let a = c .before .before .before .before .before .before .before .before .before .args in
     refused-leaves (a .out .now) (run-past (argumentsIn (a .exec .now)) (readRows (a .file .now)) (a .group .now) (a .locale .now) (a .location .now) (itemsIn (a .list .now)) (a .n) (c .before .before .before .before .before .before .before .before .before .pre .1) (c .before .before .before .before .before .before .before .before .before .pre .5) (sym (c .before .in-runs .ensures) ∙ c .if1 .left))
 

@@ -15,13 +15,13 @@ put-run-requires : tie.Need-put-run-requires
 put-run-requires c κs = (c .before .before .before .before .before .before .before .before .before .before .before .pre .0, c .before .before .before .before .before .before .before .before .before .before .before .pre .1, spend-was (sym (c .before .enum-told2 .given .1) ∙ c .before .before .before .run-left .ensures))
 
 returns : tie.Need-returns
-returns c = 
+returns c =
     let a = c .before .before .before .before .before .before .before .before .before .before .args in
     let x = recordsOf (runOf (putOf (a .item .now) (a .name .now) (a .location .now)) (itemsIn (a .list .now)) (a .icon .now)) (argumentsIn (a .exec .now)) in
     leaves-full (given x) (a .out .now) refl (spend-lacks (sym (c .enum-told .given .1) ∙ c .before .before .run-left .ensures))
 
 returns-2 : tie.Need-returns-2
-returns-2 c = 
+returns-2 c =
     let a = c .before .before .before .before .before .before .before .before .before .before .before .before .before .before .args in
     let x = recordsOf (runOf (putOf (a .item .now) (a .name .now) (a .location .now)) (itemsIn (a .list .now)) (a .icon .now)) (argumentsIn (a .exec .now)) in
     leaves-written (given x) (a .out .now) refl (spend-was (sym (c .before .before .before .before .enum-told2 .given .1) ∙ c .before .before .before .before .before .before .run-left .ensures)) (c .before .before .put-run .ensures)

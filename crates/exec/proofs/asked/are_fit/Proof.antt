@@ -55,13 +55,13 @@ loop-less c = let r = front-record _ _ (sym (c .before .before .before .before .
 
 loop-again : tie.Need-loop-again Inv-loop μ-loop
 unfolding all
-loop-again c = 
+loop-again c =
     let r = front-record _ _ (sym (c .before .before .before .before .before .before .read .ensures) ∙ c .before .before .before .before .end .given .1) in
     (items-next (c .before .before .before .before .before .before .before .before .loop .inv .0) r, rw (items-cons (c .before .before .before .before .before .before .before .before .loop .inv .0) r, sym (c .before .is-fit-item .ensures) ∙ c .if1 .taken) at (c .before .before .before .before .before .before .before .before .loop .inv .1))
 
 returns-2 : tie.Need-returns-2 Inv-loop μ-loop
 unfolding all
-returns-2 c = 
+returns-2 c =
     let r = front-record _ _ (sym (c .before .before .before .before .before .before .read .ensures) ∙ c .before .before .before .before .end .given .1) in
     rw (items-cons (c .before .before .before .before .before .before .before .before .loop .inv .0) r, sym (c .before .is-fit-item .ensures) ∙ c .if1 .left) at (c .before .before .before .before .before .before .before .before .loop .inv .1)
 

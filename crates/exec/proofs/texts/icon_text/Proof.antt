@@ -20,7 +20,7 @@ part-read-whole-end : tie.Need-part-read-whole-end
 part-read-whole-end c = chosen-value (c .before .before .before .before .before .before .before .before .before .before .args .file .now) (c .before .before .before .before .before .before .before .before .before .before .args .group .now) (ascii "Icon") (c .before .before .before .before .before .before .before .before .before .before .args .locale .now) (sym (c .before .before .before .choose-row .ensures) ∙ c .before .end .given .1) .inside
 
 read-whole-requires : tie.Need-read-whole-requires
-read-whole-requires c κs = 
+read-whole-requires c κs =
     let v = chosen-value (c .before .before .before .before .before .before .before .before .before .before .before .before .args .file .now) (c .before .before .before .before .before .before .before .before .before .before .before .before .args .group .now) (ascii "Icon") (c .before .before .before .before .before .before .before .before .before .before .before .before .args .locale .now) (sym (c .before .before .before .before .before .choose-row .ensures) ∙ c .before .before .before .end .given .1) in
     omega (arith, value-short v)
 
