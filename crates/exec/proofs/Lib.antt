@@ -1,3 +1,4 @@
+pub mod Examples
 pub mod Spending
 pub mod Listing
 pub mod Arguments
