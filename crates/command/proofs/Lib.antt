@@ -2,3 +2,4 @@ pub mod Examples
 pub mod Parting
 pub mod Pieces
 pub mod Checks
+pub mod Takers

@@ -7,3 +7,4 @@ pub mod Writing
 pub mod Values
 pub mod Asking
 pub mod Expanding
+pub mod LawProofs

@@ -1,3 +1,4 @@
 pub mod Run
 pub mod Expand
 pub mod Step
+pub mod Laws
