@@ -1,19 +1,18 @@
 -- The check of a word and of a command, way by way. Assumes nothing.
-use mathlib.Core.Path.{_≡_, refl, sym, ap, _∙_}
-use Prim.Native.Nat.{ℕ, zero, suc, _+_, _-_, _≤_, _<_}
+use mathlib.Core.Path.{_≡_, refl, ap, _∙_}
+use Prim.Native.Nat.{ℕ, _+_, _-_, _≤_, _<_}
 use native.Mathlib.Omega.{arith}
-use mathlib.Core.Bool.{Bool, true, false, _&&_, _||_, or-true, or-false}
+use mathlib.Core.Bool.{Bool, true, false, _||_, or-true, or-false}
 use mathlib.Core.Option.{Option, none, some}
 use mathlib.Core.List.{List, [], _∷_, map}
 use lib.ListN.{length, take, drop, getD}
 use lib.Dec.{eqb}
-use Rattle.base.specs.Choice.{pick, maybe}
 use Rattle.base.specs.Lists.{any, part}
 use Rattle.base.proofs.Tests.{no}
 use Rattle.fault.specs.declared.Fault.{Fault}
-use Rattle.fault.specs.declared.Fault.the-variants.{BadExec, BadCode}
+use Rattle.fault.specs.declared.Fault.the-variants.{BadExec}
 use Rattle.fault.specs.Answer.{Answer, given, refused, _>>=_, unless, then}
-use Rattle.command.specs.Words.{Word, words, insideLength, wordLength, wordsAfter}
+use Rattle.command.specs.Words.{Word, words, insideLength, wordLength}
 use Rattle.command.specs.Command.{Argument, Files, Icon, Text, argumentOf, inside, piecesOf, piecesFault, unfit, quotedFault, wordFault, takesFiles, hasPiece, isItem, isName, isIcon, wordsFault, argumentsIn, readCommand}
 use Rattle.command.specs.Step.{seePiece, seePieces, seeArgument, seeArguments, unlessFault, unseen, codesIn}
 use Rattle.command.specs.declared.Piece.{Piece}

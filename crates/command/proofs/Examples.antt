@@ -2,11 +2,8 @@
 use mathlib.Core.Path.{_≡_, refl}
 use mathlib.Core.Bool.{true, false}
 use mathlib.Core.List.{List, [], _∷_, map}
-use mathlib.Core.Option.{Option, none, some}
-use Prim.Native.Nat.{ℕ}
 use Prim.Native.String.{String}
 use Rattle.base.specs.Lists.{ascii, any, all, span}
-use Rattle.fault.specs.declared.Fault.{Fault}
 use Rattle.fault.specs.declared.Fault.the-variants.{BadExec, BadCode}
 use Rattle.fault.specs.Answer.{Answer, given, refused}
 use Rattle.command.specs.declared.Piece.{Piece}

@@ -1,9 +1,9 @@
 -- Words, one after another, and where they end. Assumes nothing.
-use mathlib.Core.Path.{_≡_, refl, sym, ap, _∙_}
+use mathlib.Core.Path.{_≡_, ap, _∙_}
 use Prim.Native.Nat.{ℕ, zero, suc, _+_, _-_, _≤_, _<_}
 use native.Mathlib.Nat.{add-zero}
 use native.Mathlib.Omega.{arith}
-use mathlib.Core.Bool.{Bool, true, false, not}
+use mathlib.Core.Bool.{Bool, true, false}
 use mathlib.Core.List.{List, [], _∷_}
 use lib.ListN.{length, take, drop, getD, length-drop}
 use lib.Seq.{getD-drop, drop-drop, drop-nil}
@@ -12,7 +12,7 @@ use borrow.Author.Tests.{eq-eqb, ne-eqb}
 use Rattle.base.specs.Choice.{pick}
 use Rattle.base.specs.Lists.{span, part}
 use Rattle.base.proofs.Scan.{here, done}
-use Rattle.base.proofs.Span.{span-le, span-from}
+use Rattle.base.proofs.Span.{span-from}
 use Rattle.line.specs.Name.{byteAt}
 use Rattle.command.specs.Words.{Word, quoteLength, insideLength, opens, notSpace, quotedLength, wordLength, wordsAfter}
 

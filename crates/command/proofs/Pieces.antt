@@ -1,18 +1,17 @@
 -- The pieces of an argument and their faults, one after another. Assumes nothing.
-use mathlib.Core.Path.{_≡_, refl, sym, ap, _∙_}
+use mathlib.Core.Path.{_≡_, refl, ap, _∙_}
 use Prim.Native.Nat.{ℕ, zero, suc, _+_, _-_, _≤_, _<_}
 use native.Mathlib.Nat.{add-zero}
 use native.Mathlib.Omega.{arith}
 use mathlib.Core.Bool.{Bool, true, false, _||_}
-use mathlib.Core.Option.{Option, none, some}
+use mathlib.Core.Option.{none, some}
 use mathlib.Core.List.{List, [], _∷_}
-use lib.ListN.{length, drop, getD, length-drop}
+use lib.ListN.{length, drop, getD}
 use lib.Seq.{drop-drop, drop-nil}
 use Rattle.base.specs.Choice.{pick, maybe}
 use Rattle.base.proofs.Scan.{here, done}
 use Rattle.fault.specs.declared.Fault.{Fault}
-use Rattle.fault.specs.Answer.{Answer, given, refused}
-use Rattle.line.specs.Name.{byteAt}
+use Rattle.fault.specs.Answer.{given, refused}
 use Rattle.command.specs.Command.{takesNext, pieceOf, widthOf, piecesAfter, piecesOf, pieceFault, isItem, piecesFault}
 use Rattle.command.specs.Step.{seePiece, seePieces, unlessFault}
 use Rattle.command.specs.declared.Piece.{Piece}

@@ -1,18 +1,18 @@
 -- A command that is read has one code at most that takes files. Assumes nothing.
-use mathlib.Core.Path.{_≡_, refl, sym, ap, _∙_}
+use mathlib.Core.Path.{_≡_, refl}
 use Prim.Native.Nat.{ℕ, zero, suc, _+_, _-_, _≤_}
 use native.Mathlib.Omega.{arith}
 use mathlib.Core.Bool.{Bool, true, false, not, _&&_, _||_}
 use mathlib.Core.Option.{Option, none, some}
 use mathlib.Core.List.{List, [], _∷_, map}
-use lib.ListN.{length, take, drop}
+use lib.ListN.{length}
 use lib.Dec.{eqb}
 use Rattle.base.specs.Choice.{pick, maybe}
 use Rattle.base.specs.Lists.{any}
 use Rattle.base.proofs.Tests.{no}
 use Rattle.fault.specs.declared.Fault.{Fault}
 use Rattle.fault.specs.declared.Fault.the-variants.{BadExec, BadCode}
-use Rattle.fault.specs.Answer.{Answer, given, refused, _>>=_, unless}
+use Rattle.fault.specs.Answer.{given, _>>=_, unless}
 use Rattle.line.specs.Name.{byteAt}
 use Rattle.command.specs.declared.Piece.{Piece}
 use Rattle.command.specs.declared.Piece.the-variants as piece

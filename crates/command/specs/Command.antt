@@ -1,8 +1,8 @@
 -- A command: the arguments of an unescaped Exec, and the lowest place where it is badly written (15) or has a wrong field code (16)
 -- (01, "Building a command"). Places count in the unescaped value. Assumes nothing.
 use Prim.Native.Nat.{ℕ, zero, suc, _+_, _-_}
-use Prim.Native.Char.{Char, code}
-use mathlib.Core.Bool.{Bool, true, false, not, _&&_, _||_}
+use Prim.Native.Char.{code}
+use mathlib.Core.Bool.{Bool, true, false, _&&_, _||_}
 use mathlib.Core.Option.{Option, none, some}
 use mathlib.Core.List.{List, [], _∷_, map}
 use lib.ListN.{length, take, drop}
@@ -11,7 +11,7 @@ use Rattle.base.specs.Choice.{pick, maybe}
 use Rattle.base.specs.Lists.{any}
 use Rattle.fault.specs.declared.Fault.{Fault}
 use Rattle.fault.specs.declared.Fault.the-variants.{BadExec, BadCode}
-use Rattle.fault.specs.Answer.{Answer, given, refused, _>>=_, unless}
+use Rattle.fault.specs.Answer.{Answer, given, _>>=_, unless}
 use Rattle.line.specs.Name.{byteAt}
 use Rattle.command.specs.Words.{Word, words, opens, insideLength}
 use Rattle.command.specs.Codes.{filesCode, needsBackslash, standsIn, codePiece, codeIn}

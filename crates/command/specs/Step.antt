@@ -1,12 +1,10 @@
 -- What the inner functions of this crate answer, by the definitions of a command. Assumes nothing.
-use Prim.Native.Nat.{ℕ}
-use mathlib.Core.Bool.{Bool, true, false}
+use mathlib.Core.Bool.{true, false}
 use mathlib.Core.Option.{Option, none, some}
 use mathlib.Core.List.{List, [], _∷_}
 use Rattle.base.specs.Choice.{maybe}
 use Rattle.fault.specs.declared.Fault.{Fault}
 use Rattle.fault.specs.Answer.{Answer, given, refused}
-use Rattle.command.specs.Words.{Word}
 use Rattle.base.specs.Lists.{any}
 use Rattle.command.specs.Command.{Argument, Files, Icon, Text, takesFiles, hasPiece, isItem, isName, isIcon}
 use Rattle.command.specs.declared.Piece.{Piece}

@@ -4,7 +4,7 @@ use mathlib.Core.List.{List, [], _∷_, _++_, map}
 use Prim.Native.Nat.{ℕ}
 use Prim.Native.String.{String}
 use Rattle.base.specs.Lists.{ascii, same, span, any, all, first, last, joined}
-use Rattle.fault.specs.declared.Fault.the-variants.{BadArgument, Missing, BadEscape, UnfitText, Damaged, BadExec, BadCode}
+use Rattle.fault.specs.declared.Fault.the-variants.{Missing, BadEscape, UnfitText, BadCode}
 use Rattle.fault.specs.Answer.{Answer, given, refused, _>>=_}
 use Rattle.text.specs.Class.{keyByte, groupByte, blankByte, valueByte}
 use Rattle.text.specs.Utf8.{lead, step, textFault}

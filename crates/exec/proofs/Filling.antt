@@ -1,13 +1,13 @@
 -- An output that is filled by pieces, by items and by words: what is written and what is left make the whole. Assumes nothing.
-use mathlib.Core.Path.{_≡_, refl, sym, ap, _∙_}
+use mathlib.Core.Path.{_≡_}
 use Prim.Native.Nat.{ℕ, _+_, _≤_, _<_}
 use native.Mathlib.Omega.{arith}
 use mathlib.Core.Bool.{Bool}
-use mathlib.Core.List.{List, [], _∷_, _++_}
+use mathlib.Core.List.{List, [], _++_}
 use lib.ListN.{length, getD, length-append}
 use Rattle.base.specs.Over.{over, atFront}
 use Rattle.base.proofs.Fill.{Fill, fill-start, fill-length, fill-as, fill-over, fill-end}
-use Rattle.command.specs.Command.{piecesOf, pieceOf, widthOf}
+use Rattle.command.specs.Command.{pieceOf, widthOf}
 use Rattle.command.specs.declared.Piece.{Piece}
 use Rattle.command.proofs.Pieces.{piecesAt, pieces-done, pieces-next}
 use Rattle.exec.specs.Run.{Put, pieceBytes, piecesBytes}

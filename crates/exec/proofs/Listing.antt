@@ -1,15 +1,15 @@
 -- The lengths of lists of records, by the bodies and by the bytes. Assumes nothing.
-use mathlib.Core.Path.{_≡_, refl, sym, ap, _∙_}
-use Prim.Native.Nat.{ℕ, _+_, _-_, _≤_, _<_}
+use mathlib.Core.Path.{_≡_, refl, ap}
+use Prim.Native.Nat.{ℕ, _+_, _-_, _≤_}
 use native.Mathlib.Omega.{arith}
 use mathlib.Core.Bool.{Bool, true, false}
 use mathlib.Core.Option.{Option, none, some, Option·map}
-use mathlib.Core.List.{List, [], _∷_, _++_, map}
+use mathlib.Core.List.{List, [], _∷_}
 use lib.ListN.{length, drop, length-append, length-drop}
 use Rattle.base.specs.Choice.{pick, maybe, there}
 use Rattle.base.specs.Lists.{joined}
 use Rattle.base.proofs.Tests.{no}
-use Rattle.record.specs.Record.{Rec, recordLength, recordBytes, listBytes, listOf, lengthAt, recordAt, whole, cut, cutAfter, readList, listMost}
+use Rattle.record.specs.Record.{Rec, recordLength, listBytes, listOf, lengthAt, recordAt, whole, cut, cutAfter, readList, listMost}
 use Rattle.record.proofs.Sizes.{listLength, length-record, length-list, recordsOf, list-of-cons}
 use Rattle.record.proofs.Cut.{cut-some-at}
 use Rattle.record.proofs.Bodies.{bodiesIn, list-sound}

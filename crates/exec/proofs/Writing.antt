@@ -3,10 +3,10 @@ use mathlib.Core.Path.{_≡_, refl, sym, ap, _∙_}
 use Prim.Native.Nat.{ℕ, _+_, _-_, _≤_, _<_}
 use native.Mathlib.Nat.{add-zero}
 use native.Mathlib.Omega.{arith}
-use mathlib.Core.Bool.{Bool, true, false, false≢true}
+use mathlib.Core.Bool.{true, false}
 use mathlib.Core.Option.{Option, none, some, Option·map}
 use mathlib.Core.List.{List, [], _∷_, _++_, append-nil}
-use lib.ListN.{length, take, drop, length-append, take-append-drop}
+use lib.ListN.{length, drop, length-append, take-append-drop}
 use lib.Dec.{eqb}
 use borrow.Author.Tests.{eqb-true, eqb-false, ne-eqb}
 use Rattle.base.specs.Choice.{maybe, there}
@@ -15,10 +15,10 @@ use Rattle.base.specs.Over.{over, atFront}
 use Rattle.base.proofs.Over.{over-then, over-tail}
 use Rattle.base.proofs.Tail.{lent, back}
 use Rattle.base.proofs.Tests.{no, by-test}
-use Rattle.record.specs.Record.{Rec, recordLength, recordBytes, whole, listOf, readList, listMost}
+use Rattle.record.specs.Record.{recordLength, recordBytes, whole, listOf, readList, listMost}
 use Rattle.record.proofs.Sizes.{length-record, list-of-cons}
 use Rattle.record.proofs.Place.{Stands}
-use Rattle.record.proofs.Bodies.{bodies, list-within, list-long, bodies-done, bodies-damaged-at, bodies-other-at, bodies-at, list-sound}
+use Rattle.record.proofs.Bodies.{bodies, list-within, bodies-done, bodies-damaged-at, bodies-other-at, bodies-at, list-sound}
 use Rattle.exec.specs.Run.{iconArguments}
 use Rattle.exec.specs.Step.{Wrote, itemsIn}
 use Rattle.exec.proofs.Listing.{list-none}

@@ -1,14 +1,13 @@
 -- The expansion of Exec: its refusals in 01's order, and the arguments of a run as records of kind 3 (01, "Building a command"). Assumes nothing.
 use Prim.Native.Nat.{ℕ}
 use mathlib.Core.Bool.{Bool, true, false, not, _&&_}
-use mathlib.Core.Option.{Option, none, some}
 use mathlib.Core.List.{List, []}
 use lib.ListN.{length, getD}
 use lib.Dec.{eqb, leb, ltb}
 use Rattle.base.specs.Choice.{maybe}
 use Rattle.base.specs.Lists.{ascii, any, all}
 use Rattle.fault.specs.declared.Fault.the-variants.{BadArgument, Missing, UnfitText, Damaged}
-use Rattle.fault.specs.Answer.{Answer, given, refused, _>>=_, need, some-or}
+use Rattle.fault.specs.Answer.{Answer, given, _>>=_, need, some-or}
 use Rattle.record.specs.Record.{readList, listMost, listOf}
 use Rattle.text.specs.Escape.{readText}
 use Rattle.line.specs.Form.{localeForm}

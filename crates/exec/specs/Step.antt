@@ -8,7 +8,7 @@ use Rattle.base.specs.Choice.{pick, maybe}
 use Rattle.base.specs.Over.{over, atFront}
 use Rattle.fault.specs.Answer.{Answer, given, refused, then}
 use Rattle.record.specs.Record.{readList, listMost}
-use Rattle.exec.specs.Run.{Put, Run, runOf}
+use Rattle.exec.specs.Run.{Put}
 use Rattle.exec.specs.declared.Counted.{Counted}
 use Rattle.exec.specs.declared.Counted.the-variants as counted
 use Rattle.text.specs.Output.{answered}

@@ -127,17 +127,17 @@ fn run_command(
     location: &[u8],
     list: &[u8],
     count: usize,
-    n: usize,
+    run: usize,
     out: &mut [u8],
 ) -> Written
     requires { ⌜ (length (now exec) ≤ 32768) × (seen ≡ codesIn (argumentsIn (now exec))) × (noneBad (now file) ≡ true) × (length (now file) ≤ 32768)
         × (there (readList 2 listMost (now list)) ≡ true) × (count ≡ length (step.itemsIn (now list))) ⌝ }
     ensures answer { λ r. ⌜ answered r ≡ told (then (listOf 3) (spec.runArguments (argumentsIn (now (exec .entry))) (readRows (now (file .entry))) (now (group .entry))
-        (now (locale .entry)) (now (location .entry)) (step.itemsIn (now (list .entry))) n)) (now (out .entry)) ⌝ }
+        (now (locale .entry)) (now (location .entry)) (step.itemsIn (now (list .entry))) run)) (now (out .entry)) ⌝ }
     ensures output { λ _. ⌜ now (out .exit) ≡ held (then (listOf 3) (spec.runArguments (argumentsIn (now (exec .entry))) (readRows (now (file .entry))) (now (group .entry))
-        (now (locale .entry)) (now (location .entry)) (step.itemsIn (now (list .entry))) n)) (now (out .entry)) ⌝ }
+        (now (locale .entry)) (now (location .entry)) (step.itemsIn (now (list .entry))) run)) (now (out .entry)) ⌝ }
 {
-    if in_runs(n, seen.item, count) {
+    if in_runs(run, seen.item, count) {
         let mut name = [0u8; 32768];
         let named = texts::name_text(file, locale, seen.name, &mut name);
         let Written::Bytes(name_end) = named else {
@@ -148,7 +148,7 @@ fn run_command(
         let Written::Bytes(icon_end) = pictured else {
             return pictured;
         };
-        let item = item_at(list, n);
+        let item = item_at(list, run);
         return write_run(
             exec,
             item,
@@ -170,14 +170,14 @@ fn expand_group(
     location: &[u8],
     list: &[u8],
     count: usize,
-    n: usize,
+    run: usize,
     out: &mut [u8],
 ) -> Written
     requires { ⌜ (noneBad (now file) ≡ true) × (length (now file) ≤ 32768) × (there (readList 2 listMost (now list)) ≡ true) × (count ≡ length (step.itemsIn (now list))) ⌝ }
     ensures answer { λ r. ⌜ answered r ≡ told (then (listOf 3) (spec.groupArguments (readRows (now (file .entry))) (now (group .entry))
-        (now (locale .entry)) (now (location .entry)) (step.itemsIn (now (list .entry))) n)) (now (out .entry)) ⌝ }
+        (now (locale .entry)) (now (location .entry)) (step.itemsIn (now (list .entry))) run)) (now (out .entry)) ⌝ }
     ensures output { λ _. ⌜ now (out .exit) ≡ held (then (listOf 3) (spec.groupArguments (readRows (now (file .entry))) (now (group .entry))
-        (now (locale .entry)) (now (location .entry)) (step.itemsIn (now (list .entry))) n)) (now (out .entry)) ⌝ }
+        (now (locale .entry)) (now (location .entry)) (step.itemsIn (now (list .entry))) run)) (now (out .entry)) ⌝ }
 {
     let Found::Row {
         line: _,
@@ -204,7 +204,7 @@ fn expand_group(
             location,
             list,
             count,
-            n,
+            run,
             out,
         ),
     }
@@ -217,11 +217,11 @@ pub fn expand(
     locale: &[u8],
     location: &[u8],
     list: &[u8],
-    n: usize,
+    run: usize,
     out: &mut [u8],
 ) -> Written
-    ensures answer { λ r. ⌜ answered r ≡ told (spec.expand (now (file .entry)) (now (locale .entry)) (now (location .entry)) (now (list .entry)) n) (now (out .entry)) ⌝ }
-    ensures output { λ _. ⌜ now (out .exit) ≡ held (spec.expand (now (file .entry)) (now (locale .entry)) (now (location .entry)) (now (list .entry)) n) (now (out .entry)) ⌝ }
+    ensures answer { λ r. ⌜ answered r ≡ told (spec.expand (now (file .entry)) (now (locale .entry)) (now (location .entry)) (now (list .entry)) run) (now (out .entry)) ⌝ }
+    ensures output { λ _. ⌜ now (out .exit) ≡ held (spec.expand (now (file .entry)) (now (locale .entry)) (now (location .entry)) (now (list .entry)) run) (now (out .entry)) ⌝ }
 {
     match ask(file, locale, location, list) {
         Counted::Refused(f) => Written::Refused(f),
@@ -233,7 +233,7 @@ pub fn expand(
                 location,
                 list,
                 count,
-                n,
+                run,
                 out,
             )
         }

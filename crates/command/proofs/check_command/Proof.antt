@@ -20,50 +20,65 @@ abbrev μ-loop : tie.MeasureT-loop
 loop-holds : tie.Need-loop-holds Inv-loop μ-loop
 loop-holds c = commanding-start
 
-shared-slice-read-if1 : tie.Need-shared-slice-read-if1 Inv-loop μ-loop
-shared-slice-read-if1 c = search needs
-
-add-i : tie.Need-add-i Inv-loop μ-loop
-add-i c = search needs
-
-loop-less : tie.Need-loop-less Inv-loop μ-loop
-loop-less c = search needs
-
 loop-again : tie.Need-loop-again Inv-loop μ-loop
 loop-again c = commanding-space (c .before .before .before .loop .inv) (search needs) (c .if1 .taken)
 
-word-end-requires : tie.Need-word-end-requires Inv-loop μ-loop
-word-end-requires c κs = search needs
-
 sub-check-word : tie.Need-sub-check-word Inv-loop μ-loop
-sub-check-word c = omega (arith, word-ends (c .before .before .before .before .before .before .args .exec .now) (c .before .before .before .before .loop .i) (c .before .before .before .loop-test .taken) (c .before .if1 .left) (c .word-end .ensures))
-
-part-check-word-start : tie.Need-part-check-word-start Inv-loop μ-loop
-part-check-word-start c = omega (arith, word-ends (c .before .before .before .before .before .before .args .exec .now) (c .before .before .before .before .loop .i) (c .before .before .before .loop-test .taken) (c .before .if1 .left) (c .word-end .ensures))
+sub-check-word c =
+    let at-if1 = c .before in
+    let at-loop-test = at-if1 .before .before in
+    let at-loop = at-loop-test .before in
+    let start = at-loop .before .before in
+    omega (arith, word-ends (start .args .exec .now) (at-loop .loop .i) (at-loop-test .loop-test .taken) (at-if1 .if1 .left) (c .word-end .ensures))
 
 part-check-word-end : tie.Need-part-check-word-end Inv-loop μ-loop
-part-check-word-end c = omega (arith, word-ends (c .before .before .before .before .before .before .args .exec .now) (c .before .before .before .before .loop .i) (c .before .before .before .loop-test .taken) (c .before .if1 .left) (c .word-end .ensures))
+part-check-word-end c =
+    let at-if1 = c .before in
+    let at-loop-test = at-if1 .before .before in
+    let at-loop = at-loop-test .before in
+    let start = at-loop .before .before in
+    omega (arith, word-ends (start .args .exec .now) (at-loop .loop .i) (at-loop-test .loop-test .taken) (at-if1 .if1 .left) (c .word-end .ensures))
 
 check-word-requires : tie.Need-check-word-requires Inv-loop μ-loop
 check-word-requires c κs =
-    let e = word-ends (c .before .before .before .before .before .before .before .args .exec .now) (c .before .before .before .before .before .loop .i) (c .before .before .before .before .loop-test .taken) (c .before .before .if1 .left) (c .before .word-end .ensures) in
-    let l = length-part (c .before .before .before .before .before .loop .i) (c .before .word-end .result) (c .before .before .before .before .before .before .before .args .exec .now) (e .1) in
+    let at-word-end = c .before in
+    let at-if1 = at-word-end .before in
+    let at-loop-test = at-if1 .before .before in
+    let at-loop = at-loop-test .before in
+    let start = at-loop .before .before in
+    let e = word-ends (start .args .exec .now) (at-loop .loop .i) (at-loop-test .loop-test .taken) (at-if1 .if1 .left) (at-word-end .word-end .ensures) in
+    let l = length-part (at-loop .loop .i) (at-word-end .word-end .result) (start .args .exec .now) (e .1) in
     (omega arith, omega arith)
 
-enum-known-f : tie.Need-enum-known-f Inv-loop μ-loop
-enum-known-f c = search needs
-
 returns : tie.Need-returns Inv-loop μ-loop
-returns c = commanding-refused (c .before .before .before .before .before .before .before .before .before .loop .inv) (c .before .before .before .before .before .before .before .before .loop-test .taken) (c .before .before .before .before .before .before .if1 .left) (c .before .before .before .before .before .word-end .ensures) (sym (ap checkedAs (c .before .f .given .1)) ∙ c .before .before .before .check-word .ensures) ∙ command-answer (c .before .before .before .before .before .before .before .before .before .before .before .args .exec .now)
-
-enum-known-known : tie.Need-enum-known-known Inv-loop μ-loop
-enum-known-known c = search needs
+returns c =
+    let at-f = c .before in
+    let at-check-word = at-f .before .before in
+    let at-word-end = at-check-word .before .before in
+    let at-if1 = at-word-end .before in
+    let at-loop-test = at-if1 .before .before in
+    let at-loop = at-loop-test .before in
+    let start = at-loop .before .before in
+    commanding-refused (at-loop .loop .inv) (at-loop-test .loop-test .taken) (at-if1 .if1 .left) (at-word-end .word-end .ensures) (sym (ap checkedAs (at-f .f .given .1)) ∙ at-check-word .check-word .ensures) ∙ command-answer (start .args .exec .now)
 
 loop-less-2 : tie.Need-loop-less-2 Inv-loop μ-loop
-loop-less-2 c = omega (arith, word-ends (c .before .before .before .before .before .before .before .before .before .before .before .args .exec .now) (c .before .before .before .before .before .before .before .before .before .loop .i) (c .before .before .before .before .before .before .before .before .loop-test .taken) (c .before .before .before .before .before .before .if1 .left) (c .before .before .before .before .before .word-end .ensures))
+loop-less-2 c =
+    let at-word-end = c .before .before .before .before .before in
+    let at-if1 = at-word-end .before in
+    let at-loop-test = at-if1 .before .before in
+    let at-loop = at-loop-test .before in
+    let start = at-loop .before .before in
+    omega (arith, word-ends (start .args .exec .now) (at-loop .loop .i) (at-loop-test .loop-test .taken) (at-if1 .if1 .left) (at-word-end .word-end .ensures))
 
 loop-again-2 : tie.Need-loop-again-2 Inv-loop μ-loop
-loop-again-2 c = commanding-next (c .before .before .before .before .before .before .before .before .before .loop .inv) (c .before .before .before .before .before .before .before .before .loop-test .taken) (c .before .before .before .before .before .before .if1 .left) (c .before .before .before .before .before .word-end .ensures) (sym (ap checkedAs (c .before .known .given .1)) ∙ c .before .before .before .check-word .ensures)
+loop-again-2 c =
+    let at-known = c .before in
+    let at-check-word = at-known .before .before in
+    let at-word-end = at-check-word .before .before in
+    let at-if1 = at-word-end .before in
+    let at-loop-test = at-if1 .before .before in
+    let at-loop = at-loop-test .before in
+    commanding-next (at-loop .loop .inv) (at-loop-test .loop-test .taken) (at-if1 .if1 .left) (at-word-end .word-end .ensures) (sym (ap checkedAs (at-known .known .given .1)) ∙ at-check-word .check-word .ensures)
 
 returns-2 : tie.Need-returns-2 Inv-loop μ-loop
 returns-2 c = commanding-none (rw (c .if2 .taken) at (c .before .before .loop .inv)) (c .before .loop-test .left) ∙ command-answer (c .before .before .before .before .args .exec .now)
@@ -78,18 +93,18 @@ check-command-spec =
     Inv-loop
     μ-loop
     loop-holds
-    shared-slice-read-if1
-    add-i
-    loop-less
+    (λ c. search needs)
+    (λ c. search needs)
+    (λ c. search needs)
     loop-again
-    word-end-requires
+    (λ c κs. search needs)
     sub-check-word
-    part-check-word-start
+    sub-check-word
     part-check-word-end
     check-word-requires
-    enum-known-f
+    (λ c. search needs)
     returns
-    enum-known-known
+    (λ c. search needs)
     loop-less-2
     loop-again-2
     returns-2

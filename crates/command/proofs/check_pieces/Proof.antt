@@ -18,38 +18,13 @@ abbrev μ-loop : tie.MeasureT-loop
 loop-holds : tie.Need-loop-holds Inv-loop μ-loop
 loop-holds c = checking-start
 
-shared-slice-read-b : tie.Need-shared-slice-read-b Inv-loop μ-loop
-shared-slice-read-b c = search needs
-
-add-byte-at : tie.Need-add-byte-at Inv-loop μ-loop
-add-byte-at c = search needs
-
-byte-at-requires : tie.Need-byte-at-requires Inv-loop μ-loop
-byte-at-requires c κs = search needs
-
-add-piece-fault : tie.Need-add-piece-fault Inv-loop μ-loop
-add-piece-fault c = search needs
-
-piece-fault-requires : tie.Need-piece-fault-requires Inv-loop μ-loop
-piece-fault-requires c κs = search needs
-
-enum-known-f : tie.Need-enum-known-f Inv-loop μ-loop
-enum-known-f c = search needs
-
 returns : tie.Need-returns Inv-loop μ-loop
-returns c = checking-refused (c .before .before .before .before .before .before .before .loop .inv) (search needs) (c .before .before .before .before .byte-at .ensures) (sym (ap faultIn (c .before .f .given .1)) ∙ c .before .before .before .piece-fault .ensures)
-
-enum-told : tie.Need-enum-told Inv-loop μ-loop
-enum-told c = search needs
-
-piece-of-requires : tie.Need-piece-of-requires Inv-loop μ-loop
-piece-of-requires c κs = search needs
-
-see-requires : tie.Need-see-requires Inv-loop μ-loop
-see-requires c κs = search needs
-
-width-of-requires : tie.Need-width-of-requires Inv-loop μ-loop
-width-of-requires c κs = search needs
+returns c =
+    let at-f = c .before in
+    let at-piece-fault = at-f .before .before in
+    let at-byte-at = at-piece-fault .before in
+    let at-loop = at-byte-at .before .before .before in
+    checking-refused (at-loop .loop .inv) (search needs) (at-byte-at .byte-at .ensures) (sym (ap faultIn (at-f .f .given .1)) ∙ at-piece-fault .piece-fault .ensures)
 
 add-i : tie.Need-add-i Inv-loop μ-loop
 add-i c = omega (arith, width-fits _ _ (c .width-of .ensures))
@@ -58,7 +33,14 @@ loop-less : tie.Need-loop-less Inv-loop μ-loop
 loop-less c = omega (arith, width-fits _ _ (c .width-of .ensures))
 
 loop-again : tie.Need-loop-again Inv-loop μ-loop
-loop-again c = checking-next (c .before .before .before .before .before .before .before .before .before .loop .inv) (search needs) (c .before .before .before .before .before .before .byte-at .ensures) (sym (ap faultIn (c .before .before .before .enum-told .given .1)) ∙ c .before .before .before .before .before .piece-fault .ensures) (c .before .before .piece-of .ensures) (c .before .see .ensures) (c .width-of .ensures)
+loop-again c =
+    let at-see = c .before in
+    let at-piece-of = at-see .before in
+    let at-enum-told = at-piece-of .before in
+    let at-piece-fault = at-enum-told .before .before in
+    let at-byte-at = at-piece-fault .before in
+    let at-loop = at-byte-at .before .before .before in
+    checking-next (at-loop .loop .inv) (search needs) (at-byte-at .byte-at .ensures) (sym (ap faultIn (at-enum-told .enum-told .given .1)) ∙ at-piece-fault .piece-fault .ensures) (at-piece-of .piece-of .ensures) (at-see .see .ensures) (c .width-of .ensures)
 
 returns-2 : tie.Need-returns-2 Inv-loop μ-loop
 returns-2 c = checking-end (c .before .loop .inv) (c .loop-test .left)
@@ -70,17 +52,17 @@ check-pieces-spec =
     Inv-loop
     μ-loop
     loop-holds
-    shared-slice-read-b
-    add-byte-at
-    byte-at-requires
-    add-piece-fault
-    piece-fault-requires
-    enum-known-f
+    (λ c. search needs)
+    (λ c. search needs)
+    (λ c κs. search needs)
+    (λ c. search needs)
+    (λ c κs. search needs)
+    (λ c. search needs)
     returns
-    enum-told
-    piece-of-requires
-    see-requires
-    width-of-requires
+    (λ c. search needs)
+    (λ c κs. search needs)
+    (λ c κs. search needs)
+    (λ c κs. search needs)
     add-i
     loop-less
     loop-again

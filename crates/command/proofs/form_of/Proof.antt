@@ -12,15 +12,38 @@ returns c = rw (← c .before .byte-at .ensures, eq-eqb _ _ (c .if1 .taken))
 
 returns-2 : tie.Need-returns-2
 unfolding formOf
-returns-2 c = rw (sym (c .before .before .before .before .before .is-pair .ensures) ∙ c .before .before .before .before .if2 .taken, ← c .before .before .before .before .before .before .before .byte-at .ensures, ← c .before .before .before .byte-at2 .ensures, ne-eqb _ _ (c .before .before .before .before .before .before .if1 .left), sym (c .before .one-of .ensures) ∙ c .if3 .taken)
+returns-2 c =
+    let at-one-of = c .before in
+    let at-byte-at2 = at-one-of .before .before in
+    let at-if2 = at-byte-at2 .before in
+    let at-is-pair = at-if2 .before in
+    let at-if1 = at-is-pair .before in
+    let at-byte-at = at-if1 .before in
+    rw (sym (at-is-pair .is-pair .ensures) ∙ at-if2 .if2 .taken, ← at-byte-at .byte-at .ensures, ← at-byte-at2 .byte-at2 .ensures, ne-eqb _ _ (at-if1 .if1 .left), sym (at-one-of .one-of .ensures) ∙ c .if3 .taken)
 
 returns-3 : tie.Need-returns-3
 unfolding formOf
-returns-3 c = rw (sym (c .before .before .before .before .before .before .is-pair .ensures) ∙ c .before .before .before .before .before .if2 .taken, ← c .before .before .before .before .before .before .before .before .byte-at .ensures, ← c .before .before .before .before .byte-at2 .ensures, ne-eqb _ _ (c .before .before .before .before .before .before .before .if1 .left), sym (c .before .before .one-of .ensures) ∙ c .before .if3 .left, eq-eqb _ _ (c .if4 .taken))
+returns-3 c =
+    let at-if3 = c .before in
+    let at-one-of = at-if3 .before in
+    let at-byte-at2 = at-one-of .before .before in
+    let at-if2 = at-byte-at2 .before in
+    let at-is-pair = at-if2 .before in
+    let at-if1 = at-is-pair .before in
+    let at-byte-at = at-if1 .before in
+    rw (sym (at-is-pair .is-pair .ensures) ∙ at-if2 .if2 .taken, ← at-byte-at .byte-at .ensures, ← at-byte-at2 .byte-at2 .ensures, ne-eqb _ _ (at-if1 .if1 .left), sym (at-one-of .one-of .ensures) ∙ at-if3 .if3 .left, eq-eqb _ _ (c .if4 .taken))
 
 returns-4 : tie.Need-returns-4
 unfolding formOf
-returns-4 c = rw (sym (c .before .before .before .before .before .before .is-pair .ensures) ∙ c .before .before .before .before .before .if2 .taken, ← c .before .before .before .before .before .before .before .before .byte-at .ensures, ← c .before .before .before .before .byte-at2 .ensures, ne-eqb _ _ (c .before .before .before .before .before .before .before .if1 .left), sym (c .before .before .one-of .ensures) ∙ c .before .if3 .left, ne-eqb _ _ (c .if4 .left))
+returns-4 c =
+    let at-if3 = c .before in
+    let at-one-of = at-if3 .before in
+    let at-byte-at2 = at-one-of .before .before in
+    let at-if2 = at-byte-at2 .before in
+    let at-is-pair = at-if2 .before in
+    let at-if1 = at-is-pair .before in
+    let at-byte-at = at-if1 .before in
+    rw (sym (at-is-pair .is-pair .ensures) ∙ at-if2 .if2 .taken, ← at-byte-at .byte-at .ensures, ← at-byte-at2 .byte-at2 .ensures, ne-eqb _ _ (at-if1 .if1 .left), sym (at-one-of .one-of .ensures) ∙ at-if3 .if3 .left, ne-eqb _ _ (c .if4 .left))
 
 returns-5 : tie.Need-returns-5
 unfolding formOf

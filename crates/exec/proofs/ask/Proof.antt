@@ -9,31 +9,68 @@ use Rattle.exec.proofs.ask.Tie as tie
 
 returns : tie.Need-returns
 unfolding askedItems
-returns c = rw (sym (c .before .before .before .before .before .check .ensures) ∙ ap pass.answered (c .before .before .before .enum-told .given .1), count-refuses 2 65536 (c .before .before .before .before .before .before .before .before .before .before .args .list .now) (sym (c .before .before .count .ensures) ∙ c .enum-told2 .given .1))
+returns c =
+    let at-count = c .before .before in
+    let at-enum-told = at-count .before in
+    let at-check = at-enum-told .before .before in
+    let start = at-check .before .before .before .before .before in
+    rw (sym (at-check .check .ensures) ∙ ap pass.answered (at-enum-told .enum-told .given .1), count-refuses 2 65536 (start .args .list .now) (sym (at-count .count .ensures) ∙ c .enum-told2 .given .1))
 
 are-fit-requires : tie.Need-are-fit-requires
-are-fit-requires c κs = let k = count-reads 2 65536 (c .before .before .before .before .before .before .before .before .before .before .before .before .before .args .list .now) (sym (c .before .before .before .before .before .count .ensures) ∙ c .before .before .before .n .given .1) in rw (k .1)
+are-fit-requires c κs =
+    let at-n = c .before .before .before in
+    let at-count = at-n .before .before in
+    let start = at-count .before .before .before .before .before .before .before .before in
+    let k = count-reads 2 65536 (start .args .list .now) (sym (at-count .count .ensures) ∙ at-n .n .given .1) in rw (k .1)
 
 returns-2 : tie.Need-returns-2
 unfolding askedItems
 returns-2 c =
-    let k = count-reads 2 65536 (c .before .before .before .before .before .before .before .before .before .before .before .before .before .before .before .before .before .args .list .now) (sym (c .before .before .before .before .before .before .before .before .before .count .ensures) ∙ c .before .before .before .before .before .before .before .n .given .1) in
-    let f = rw (k .1) at (sym (c .before .before .before .are-fit .ensures) ∙ c .before .before .if2 .taken) in
-    rw (sym (c .before .before .before .before .before .before .before .before .before .before .before .before .check .ensures) ∙ ap pass.answered (c .before .before .before .before .before .before .before .before .before .before .enum-told .given .1), k .1, sym (c .before .before .before .before .before .is-locale .ensures) ∙ c .before .before .before .before .if1 .taken, f, sym (c .before .is-fit-location .ensures) ∙ c .if3 .taken, k .2)
+    let at-is-fit-location = c .before in
+    let at-if2 = at-is-fit-location .before in
+    let at-are-fit = at-if2 .before in
+    let at-if1 = at-are-fit .before in
+    let at-is-locale = at-if1 .before in
+    let at-n = at-is-locale .before .before in
+    let at-count = at-n .before .before in
+    let at-enum-told = at-count .before in
+    let at-check = at-enum-told .before .before in
+    let start = at-check .before .before .before .before .before in
+    let k = count-reads 2 65536 (start .args .list .now) (sym (at-count .count .ensures) ∙ at-n .n .given .1) in
+    let f = rw (k .1) at (sym (at-are-fit .are-fit .ensures) ∙ at-if2 .if2 .taken) in
+    rw (sym (at-check .check .ensures) ∙ ap pass.answered (at-enum-told .enum-told .given .1), k .1, sym (at-is-locale .is-locale .ensures) ∙ at-if1 .if1 .taken, f, sym (at-is-fit-location .is-fit-location .ensures) ∙ c .if3 .taken, k .2)
 
 returns-3 : tie.Need-returns-3
 unfolding askedItems
 returns-3 c =
-    let k = count-reads 2 65536 (c .before .before .before .before .before .before .before .before .before .before .before .before .before .before .before .before .before .args .list .now) (sym (c .before .before .before .before .before .before .before .before .before .count .ensures) ∙ c .before .before .before .before .before .before .before .n .given .1) in
-    let f = rw (k .1) at (sym (c .before .before .before .are-fit .ensures) ∙ c .before .before .if2 .taken) in
-    rw (sym (c .before .before .before .before .before .before .before .before .before .before .before .before .check .ensures) ∙ ap pass.answered (c .before .before .before .before .before .before .before .before .before .before .enum-told .given .1), k .1, sym (c .before .before .before .before .before .is-locale .ensures) ∙ c .before .before .before .before .if1 .taken, f, sym (c .before .is-fit-location .ensures) ∙ c .if3 .left)
+    let at-is-fit-location = c .before in
+    let at-if2 = at-is-fit-location .before in
+    let at-are-fit = at-if2 .before in
+    let at-if1 = at-are-fit .before in
+    let at-is-locale = at-if1 .before in
+    let at-n = at-is-locale .before .before in
+    let at-count = at-n .before .before in
+    let at-enum-told = at-count .before in
+    let at-check = at-enum-told .before .before in
+    let start = at-check .before .before .before .before .before in
+    let k = count-reads 2 65536 (start .args .list .now) (sym (at-count .count .ensures) ∙ at-n .n .given .1) in
+    let f = rw (k .1) at (sym (at-are-fit .are-fit .ensures) ∙ at-if2 .if2 .taken) in
+    rw (sym (at-check .check .ensures) ∙ ap pass.answered (at-enum-told .enum-told .given .1), k .1, sym (at-is-locale .is-locale .ensures) ∙ at-if1 .if1 .taken, f, sym (at-is-fit-location .is-fit-location .ensures) ∙ c .if3 .left)
 
 returns-4 : tie.Need-returns-4
 unfolding askedItems
 returns-4 c =
-    let k = count-reads 2 65536 (c .before .before .before .before .before .before .before .before .before .before .before .before .before .before .before .args .list .now) (sym (c .before .before .before .before .before .before .before .count .ensures) ∙ c .before .before .before .before .before .n .given .1) in
-    let f = rw (k .1) at (sym (c .before .are-fit .ensures) ∙ c .if2 .left) in
-    rw (sym (c .before .before .before .before .before .before .before .before .before .before .check .ensures) ∙ ap pass.answered (c .before .before .before .before .before .before .before .before .enum-told .given .1), k .1, sym (c .before .before .before .is-locale .ensures) ∙ c .before .before .if1 .taken, f)
+    let at-are-fit = c .before in
+    let at-if1 = at-are-fit .before in
+    let at-is-locale = at-if1 .before in
+    let at-n = at-is-locale .before .before in
+    let at-count = at-n .before .before in
+    let at-enum-told = at-count .before in
+    let at-check = at-enum-told .before .before in
+    let start = at-check .before .before .before .before .before in
+    let k = count-reads 2 65536 (start .args .list .now) (sym (at-count .count .ensures) ∙ at-n .n .given .1) in
+    let f = rw (k .1) at (sym (at-are-fit .are-fit .ensures) ∙ c .if2 .left) in
+    rw (sym (at-check .check .ensures) ∙ ap pass.answered (at-enum-told .enum-told .given .1), k .1, sym (at-is-locale .is-locale .ensures) ∙ at-if1 .if1 .taken, f)
 
 returns-5 : tie.Need-returns-5
 unfolding askedItems
@@ -42,8 +79,14 @@ returns-5 c = rw (sym (c .before .before .before .check .ensures) ∙ ap pass.an
 returns-6 : tie.Need-returns-6
 unfolding askedItems
 returns-6 c =
-    let k = count-reads 2 65536 (c .before .before .before .before .before .before .before .before .before .before .before .before .before .args .list .now) (sym (c .before .before .before .before .before .count .ensures) ∙ c .before .before .before .n .given .1) in
-    rw (sym (c .before .before .before .before .before .before .before .before .check .ensures) ∙ ap pass.answered (c .before .before .before .before .before .before .enum-told .given .1), k .1, sym (c .before .is-locale .ensures) ∙ c .if1 .left)
+    let at-is-locale = c .before in
+    let at-n = at-is-locale .before .before in
+    let at-count = at-n .before .before in
+    let at-enum-told = at-count .before in
+    let at-check = at-enum-told .before .before in
+    let start = at-check .before .before .before .before .before in
+    let k = count-reads 2 65536 (start .args .list .now) (sym (at-count .count .ensures) ∙ at-n .n .given .1) in
+    rw (sym (at-check .check .ensures) ∙ ap pass.answered (at-enum-told .enum-told .given .1), k .1, sym (at-is-locale .is-locale .ensures) ∙ c .if1 .left)
 
 pub ask-spec : {M : Type 1} → statement M
 ask-spec =

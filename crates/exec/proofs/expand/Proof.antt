@@ -13,21 +13,31 @@ use Rattle.exec.proofs.expand.Tie as tie
 
 expand-group-requires : tie.Need-expand-group-requires
 expand-group-requires c κs =
-    let a = c .before .before .before .before .before .before .before .before .before .before .before .args in
-    let g = asked-given (a .file .now) (a .locale .now) (a .location .now) (a .list .now) (sym (ap askedAs (c .before .before .before .count .given .1)) ∙ c .before .before .before .before .before .ask .ensures) in
+    let at-count = c .before .before .before in
+    let at-ask = at-count .before .before in
+    let start = at-ask .before .before .before .before .before .before in
+    let a = start .args in
+    let g = asked-given (a .file .now) (a .locale .now) (a .location .now) (a .list .now) (sym (ap askedAs (at-count .count .given .1)) ∙ at-ask .ask .ensures) in
     let k = check-good desktopEntry (a .file .now) (g .checks) in
     (k .0, k .1, g .reads, g .counts)
 
 returns : tie.Need-returns
 returns c =
-    let a = c .before .before .before .before .before .before .before .before .before .args in
-    leaves-refused (spec.expand (a .file .now) (a .locale .now) (a .location .now) (a .list .now) (a .n)) _ (a .out .now) (expand-refused (a .file .now) (a .locale .now) (a .location .now) (a .list .now) (a .n) (sym (ap askedAs (c .before .f .given .1)) ∙ c .before .before .before .ask .ensures))
+    let at-f = c .before in
+    let at-ask = at-f .before .before in
+    let start = at-ask .before .before .before .before .before .before in
+    let a = start .args in
+    leaves-refused (spec.expand (a .file .now) (a .locale .now) (a .location .now) (a .list .now) (a .run)) _ (a .out .now) (expand-refused (a .file .now) (a .locale .now) (a .location .now) (a .list .now) (a .run) (sym (ap askedAs (at-f .f .given .1)) ∙ at-ask .ask .ensures))
 
 returns-2 : tie.Need-returns-2
 returns-2 c =
-    let a = c .before .before .before .before .before .before .before .before .before .before .before .before .before .before .args in
-    let g = asked-given (a .file .now) (a .locale .now) (a .location .now) (a .list .now) (sym (ap askedAs (c .before .before .before .before .before .before .count .given .1)) ∙ c .before .before .before .before .before .before .before .before .ask .ensures) in
-    rw (expand-granted (a .file .now) (a .locale .now) (a .location .now) (a .list .now) (a .n) g) (c .before .before .expand-group .ensures)
+    let at-expand-group = c .before .before in
+    let at-count = at-expand-group .before .before .before .before in
+    let at-ask = at-count .before .before in
+    let start = at-ask .before .before .before .before .before .before in
+    let a = start .args in
+    let g = asked-given (a .file .now) (a .locale .now) (a .location .now) (a .list .now) (sym (ap askedAs (at-count .count .given .1)) ∙ at-ask .ask .ensures) in
+    rw (expand-granted (a .file .now) (a .locale .now) (a .location .now) (a .list .now) (a .run) g) (at-expand-group .expand-group .ensures)
 
 pub expand-spec : {M : Type 1} → statement M
 expand-spec =

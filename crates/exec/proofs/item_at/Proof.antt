@@ -15,19 +15,32 @@ nth-requires : tie.Need-nth-requires
 nth-requires c κs = list-cut 2 listMost (c .before .args .list .now) (reads-some (c .before .args .list .now) (c .before .pre))
 
 returns : tie.Need-returns
-returns c = sym (List·getD-eq-default (itemsIn (c .before .before .before .before .before .args .list .now)) [] (nth-past 2 listMost (c .before .before .before .before .before .args .list .now) (c .before .before .before .before .before .args .n) (reads-some (c .before .before .before .before .before .args .list .now) (c .before .before .before .before .before .pre)) (sym (c .before .before .before .nth .ensures) ∙ c .before .enum-told .given .1)))
+returns c =
+    let at-enum-told = c .before in
+    let at-nth = at-enum-told .before .before in
+    let start = at-nth .before .before in
+    sym (List·getD-eq-default (itemsIn (start .args .list .now)) [] (nth-past 2 listMost (start .args .list .now) (start .args .n) (reads-some (start .args .list .now) (start .pre)) (sym (at-nth .nth .ensures) ∙ at-enum-told .enum-told .given .1)))
 
 sub-result : tie.Need-sub-result
-sub-result c = nth-body 2 listMost (c .before .before .before .before .before .args .list .now) (c .before .before .before .before .before .args .n) (reads-some (c .before .before .before .before .before .args .list .now) (c .before .before .before .before .before .pre)) (sym (c .before .before .before .nth .ensures) ∙ c .before .from .given .1) .ordered
-
-part-result-start : tie.Need-part-result-start
-part-result-start c = nth-body 2 listMost (c .before .before .before .before .before .args .list .now) (c .before .before .before .before .before .args .n) (reads-some (c .before .before .before .before .before .args .list .now) (c .before .before .before .before .before .pre)) (sym (c .before .before .before .nth .ensures) ∙ c .before .from .given .1) .ordered
+sub-result c =
+    let at-from = c .before in
+    let at-nth = at-from .before .before in
+    let start = at-nth .before .before in
+    nth-body 2 listMost (start .args .list .now) (start .args .n) (reads-some (start .args .list .now) (start .pre)) (sym (at-nth .nth .ensures) ∙ at-from .from .given .1) .ordered
 
 part-result-end : tie.Need-part-result-end
-part-result-end c = nth-body 2 listMost (c .before .before .before .before .before .args .list .now) (c .before .before .before .before .before .args .n) (reads-some (c .before .before .before .before .before .args .list .now) (c .before .before .before .before .before .pre)) (sym (c .before .before .before .nth .ensures) ∙ c .before .from .given .1) .inside
+part-result-end c =
+    let at-from = c .before in
+    let at-nth = at-from .before .before in
+    let start = at-nth .before .before in
+    nth-body 2 listMost (start .args .list .now) (start .args .n) (reads-some (start .args .list .now) (start .pre)) (sym (at-nth .nth .ensures) ∙ at-from .from .given .1) .inside
 
 returns-2 : tie.Need-returns-2
-returns-2 c = nth-body 2 listMost (c .before .before .before .before .before .before .args .list .now) (c .before .before .before .before .before .before .args .n) (reads-some (c .before .before .before .before .before .before .args .list .now) (c .before .before .before .before .before .before .pre)) (sym (c .before .before .before .before .nth .ensures) ∙ c .before .before .from .given .1) .body
+returns-2 c =
+    let at-from = c .before .before in
+    let at-nth = at-from .before .before in
+    let start = at-nth .before .before in
+    nth-body 2 listMost (start .args .list .now) (start .args .n) (reads-some (start .args .list .now) (start .pre)) (sym (at-nth .nth .ensures) ∙ at-from .from .given .1) .body
 
 pub item-at-spec : {M : Type 1} → statement M
 item-at-spec =
@@ -39,6 +52,6 @@ item-at-spec =
     (λ c. search needs)
     returns
     sub-result
-    part-result-start
+    sub-result
     part-result-end
     returns-2)

@@ -1,6 +1,5 @@
 -- `run_command` meets its contract: the calls that led to each return say which answer the definition has. Assumes nothing.
 use mathlib.Core.Path.{sym, _∙_}
-use lib.ListN.{length}
 use lib.Seq.{length-take-le}
 use Rattle.rows.specs.Rows.{readRows}
 use Rattle.command.specs.Command.{argumentsIn}
@@ -14,44 +13,71 @@ use Rattle.exec.proofs.run_command.Tie as tie
 
 returns : tie.Need-returns
 returns c =
-    let a = c .before .before .before .before .before .before .before .before .before .before .before .before .before .before .args in
+    let at-name-text = c .before .before .before in
+    let at-if1 = at-name-text .before .before in
+    let at-in-runs = at-if1 .before in
+    let start = at-in-runs .before .before .before .before .before .before .before .before in
+    let a = start .args in
     rw (c .enum-told .given .1)
-    (refused-leaves (a .out .now) (run-unnamed (argumentsIn (a .exec .now)) (readRows (a .file .now)) (a .group .now) (a .locale .now) (a .location .now) (itemsIn (a .list .now)) (a .n) (c .before .before .before .before .before .before .before .before .before .before .before .before .before .before .pre .1) (c .before .before .before .before .before .before .before .before .before .before .before .before .before .before .pre .5) (sym (c .before .before .before .before .before .before .in-runs .ensures) ∙ c .before .before .before .before .before .if1 .taken) (rw (c .enum-told .given .1) at (c .before .before .before .name-text .ensures))))
+    (refused-leaves (a .out .now) (run-unnamed (argumentsIn (a .exec .now)) (readRows (a .file .now)) (a .group .now) (a .locale .now) (a .location .now) (itemsIn (a .list .now)) (a .run) (start .pre .1) (start .pre .5) (sym (at-in-runs .in-runs .ensures) ∙ at-if1 .if1 .taken) (rw (c .enum-told .given .1) at (at-name-text .name-text .ensures))))
 
 returns-2 : tie.Need-returns-2
 returns-2 c =
-    let a = c .before .before .before .before .before .before .before .before .before .before .before .before .before .before .before .before .before .before .before .before .args in
-    let n = read-given (nameText (readRows (a .file .now)) (a .locale .now) (a .seen .name)) (rw (c .before .before .before .before .before .before .named .given .1) at (c .before .before .before .before .before .before .before .before .before .name-text .ensures)) in
+    let at-icon-text = c .before .before .before in
+    let at-named = at-icon-text .before .before .before in
+    let at-name-text = at-named .before .before .before in
+    let at-if1 = at-name-text .before .before in
+    let at-in-runs = at-if1 .before in
+    let start = at-in-runs .before .before .before .before .before .before .before .before in
+    let a = start .args in
+    let n = read-given (nameText (readRows (a .file .now)) (a .locale .now) (a .seen .name)) (rw (at-named .named .given .1) at (at-name-text .name-text .ensures)) in
     rw (c .enum-told2 .given .1)
-    (refused-leaves (a .out .now) (run-unpictured (argumentsIn (a .exec .now)) (readRows (a .file .now)) (a .group .now) (a .locale .now) (a .location .now) (itemsIn (a .list .now)) (a .n) (c .before .before .before .before .before .before .before .before .before .before .before .before .before .before .before .before .before .before .before .before .pre .1) (c .before .before .before .before .before .before .before .before .before .before .before .before .before .before .before .before .before .before .before .before .pre .5) (sym (c .before .before .before .before .before .before .before .before .before .before .before .before .in-runs .ensures) ∙ c .before .before .before .before .before .before .before .before .before .before .before .if1 .taken) (n .0) (rw (c .enum-told2 .given .1) at (c .before .before .before .icon-text .ensures))))
+    (refused-leaves (a .out .now) (run-unpictured (argumentsIn (a .exec .now)) (readRows (a .file .now)) (a .group .now) (a .locale .now) (a .location .now) (itemsIn (a .list .now)) (a .run) (start .pre .1) (start .pre .5) (sym (at-in-runs .in-runs .ensures) ∙ at-if1 .if1 .taken) (n .0) (rw (c .enum-told2 .given .1) at (at-icon-text .icon-text .ensures))))
 
 array-share-prefix-name : tie.Need-array-share-prefix-name
 array-share-prefix-name c =
-    let a = c .before .before .before .before .before .before .before .before .before .before .before .before .before .before .before .before .before .before .before .before .before .before .args in
-    read-given (nameText (readRows (a .file .now)) (a .locale .now) (a .seen .name)) (rw (c .before .before .before .before .before .before .before .before .named .given .1) at (c .before .before .before .before .before .before .before .before .before .before .before .name-text .ensures)) .1
+    let at-named = c .before .before .before .before .before .before .before .before in
+    let at-name-text = at-named .before .before .before in
+    let start = at-name-text .before .before .before .before .before .before .before .before .before .before .before in
+    let a = start .args in
+    read-given (nameText (readRows (a .file .now)) (a .locale .now) (a .seen .name)) (rw (at-named .named .given .1) at (at-name-text .name-text .ensures)) .1
 
 slice-aggregate-write-run : tie.Need-slice-aggregate-write-run
 slice-aggregate-write-run c = sym (length-take-le _ _ (array-share-prefix-name (c .before)))
 
 array-share-prefix-icon : tie.Need-array-share-prefix-icon
 array-share-prefix-icon c =
-    let a = c .before .before .before .before .before .before .before .before .before .before .before .before .before .before .before .before .before .before .before .before .before .before .before .args in
-    read-given (iconText (readRows (a .file .now)) (a .group .now) (a .locale .now) (a .seen .icon)) (rw (c .before .before .before .pictured .given .1) at (c .before .before .before .before .before .before .icon-text .ensures)) .1
+    let at-pictured = c .before .before .before in
+    let at-icon-text = at-pictured .before .before .before in
+    let start = at-icon-text .before .before .before .before .before .before .before .before .before .before .before .before .before .before .before .before .before in
+    let a = start .args in
+    read-given (iconText (readRows (a .file .now)) (a .group .now) (a .locale .now) (a .seen .icon)) (rw (at-pictured .pictured .given .1) at (at-icon-text .icon-text .ensures)) .1
 
 slice-aggregate-write-run-2 : tie.Need-slice-aggregate-write-run-2
 slice-aggregate-write-run-2 c = sym (length-take-le _ _ (array-share-prefix-icon (c .before)))
 
 returns-3 : tie.Need-returns-3
 returns-3 c =
-    let a = c .before .before .before .before .before .before .before .before .before .before .before .before .before .before .before .before .before .before .before .before .before .before .before .before .before .before .before .before .args in
-    let n = read-given (nameText (readRows (a .file .now)) (a .locale .now) (a .seen .name)) (rw (c .before .before .before .before .before .before .before .before .before .before .before .before .before .before .named .given .1) at (c .before .before .before .before .before .before .before .before .before .before .before .before .before .before .before .before .before .name-text .ensures)) in
-    let i = read-given (iconText (readRows (a .file .now)) (a .group .now) (a .locale .now) (a .seen .icon)) (rw (c .before .before .before .before .before .before .before .before .pictured .given .1) at (c .before .before .before .before .before .before .before .before .before .before .before .icon-text .ensures)) in
-    rw (run-given (argumentsIn (a .exec .now)) (readRows (a .file .now)) (a .group .now) (a .locale .now) (a .location .now) (itemsIn (a .list .now)) (a .n) (c .before .before .before .before .before .before .before .before .before .before .before .before .before .before .before .before .before .before .before .before .before .before .before .before .before .before .before .before .pre .1) (c .before .before .before .before .before .before .before .before .before .before .before .before .before .before .before .before .before .before .before .before .before .before .before .before .before .before .before .before .pre .5) (sym (c .before .before .before .before .before .before .before .before .before .before .before .before .before .before .before .before .before .before .before .before .in-runs .ensures) ∙ c .before .before .before .before .before .before .before .before .before .before .before .before .before .before .before .before .before .before .before .if1 .taken) (n .0) (i .0), ← c .before .before .before .before .before .before .item-at .ensures) (c .before .before .write-run .ensures)
+    let at-write-run = c .before .before in
+    let at-item-at = at-write-run .before .before .before .before in
+    let at-pictured = at-item-at .before .before in
+    let at-icon-text = at-pictured .before .before .before in
+    let at-named = at-icon-text .before .before .before in
+    let at-name-text = at-named .before .before .before in
+    let at-if1 = at-name-text .before .before in
+    let at-in-runs = at-if1 .before in
+    let start = at-in-runs .before .before .before .before .before .before .before .before in
+    let a = start .args in
+    let n = read-given (nameText (readRows (a .file .now)) (a .locale .now) (a .seen .name)) (rw (at-named .named .given .1) at (at-name-text .name-text .ensures)) in
+    let i = read-given (iconText (readRows (a .file .now)) (a .group .now) (a .locale .now) (a .seen .icon)) (rw (at-pictured .pictured .given .1) at (at-icon-text .icon-text .ensures)) in
+    rw (run-given (argumentsIn (a .exec .now)) (readRows (a .file .now)) (a .group .now) (a .locale .now) (a .location .now) (itemsIn (a .list .now)) (a .run) (start .pre .1) (start .pre .5) (sym (at-in-runs .in-runs .ensures) ∙ at-if1 .if1 .taken) (n .0) (i .0), ← at-item-at .item-at .ensures) (at-write-run .write-run .ensures)
 
 returns-4 : tie.Need-returns-4
 returns-4 c =
-    let a = c .before .before .before .before .before .before .before .before .before .args in
-    refused-leaves (a .out .now) (run-past (argumentsIn (a .exec .now)) (readRows (a .file .now)) (a .group .now) (a .locale .now) (a .location .now) (itemsIn (a .list .now)) (a .n) (c .before .before .before .before .before .before .before .before .before .pre .1) (c .before .before .before .before .before .before .before .before .before .pre .5) (sym (c .before .in-runs .ensures) ∙ c .if1 .left))
+    let at-in-runs = c .before in
+    let start = at-in-runs .before .before .before .before .before .before .before .before in
+    let a = start .args in
+    refused-leaves (a .out .now) (run-past (argumentsIn (a .exec .now)) (readRows (a .file .now)) (a .group .now) (a .locale .now) (a .location .now) (itemsIn (a .list .now)) (a .run) (start .pre .1) (start .pre .5) (sym (at-in-runs .in-runs .ensures) ∙ c .if1 .left))
 
 pub run-command-spec : {M : Type 1} → statement M
 run-command-spec =

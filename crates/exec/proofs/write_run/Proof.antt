@@ -12,19 +12,29 @@ use Rattle.exec.proofs.write_run.Statement.{statement}
 use Rattle.exec.proofs.write_run.Tie as tie
 
 put-run-requires : tie.Need-put-run-requires
-put-run-requires c κs = (c .before .before .before .before .before .before .before .before .before .before .before .pre .0, c .before .before .before .before .before .before .before .before .before .before .before .pre .1, spend-was (sym (c .before .enum-told2 .given .1) ∙ c .before .before .before .run-left .ensures))
+put-run-requires c κs =
+    let at-enum-told2 = c .before in
+    let at-run-left = at-enum-told2 .before .before in
+    let start = at-run-left .before .before .before .before .before .before .before .before in
+    (start .pre .0, start .pre .1, spend-was (sym (at-enum-told2 .enum-told2 .given .1) ∙ at-run-left .run-left .ensures))
 
 returns : tie.Need-returns
 returns c =
-    let a = c .before .before .before .before .before .before .before .before .before .before .args in
+    let at-run-left = c .before .before in
+    let start = at-run-left .before .before .before .before .before .before .before .before in
+    let a = start .args in
     let x = recordsOf (runOf (putOf (a .item .now) (a .name .now) (a .location .now)) (itemsIn (a .list .now)) (a .icon .now)) (argumentsIn (a .exec .now)) in
-    leaves-full (given x) (a .out .now) refl (spend-lacks (sym (c .enum-told .given .1) ∙ c .before .before .run-left .ensures))
+    leaves-full (given x) (a .out .now) refl (spend-lacks (sym (c .enum-told .given .1) ∙ at-run-left .run-left .ensures))
 
 returns-2 : tie.Need-returns-2
 returns-2 c =
-    let a = c .before .before .before .before .before .before .before .before .before .before .before .before .before .before .args in
+    let at-put-run = c .before .before in
+    let at-enum-told2 = at-put-run .before .before in
+    let at-run-left = at-enum-told2 .before .before in
+    let start = at-run-left .before .before .before .before .before .before .before .before in
+    let a = start .args in
     let x = recordsOf (runOf (putOf (a .item .now) (a .name .now) (a .location .now)) (itemsIn (a .list .now)) (a .icon .now)) (argumentsIn (a .exec .now)) in
-    leaves-written (given x) (a .out .now) refl (spend-was (sym (c .before .before .before .before .enum-told2 .given .1) ∙ c .before .before .before .before .before .before .run-left .ensures)) (c .before .before .put-run .ensures)
+    leaves-written (given x) (a .out .now) refl (spend-was (sym (at-enum-told2 .enum-told2 .given .1) ∙ at-run-left .run-left .ensures)) (at-put-run .put-run .ensures)
 
 pub write-run-spec : {M : Type 1} → statement M
 write-run-spec =

@@ -1,6 +1,6 @@
 -- `codes::code_in` meets its contract: the tests that led to each return say which case of the definition holds. Assumes nothing.
 use mathlib.Core.Path.{sym, _∙_}
-use borrow.Author.Tests.{eq-eqb, ne-eqb, le-leb, lt-leb}
+use borrow.Author.Tests.{eq-eqb, ne-eqb}
 use Rattle.command.specs.Codes.{codeIn}
 use borrow.Author.Needs.{needs}
 use Rattle.command.proofs.codes.code_in.Statement.{statement}
@@ -20,15 +20,35 @@ returns-3 c = rw (ne-eqb _ _ (c .before .before .if1 .left), c .before .if2 .lef
 
 returns-4 : tie.Need-returns-4
 unfolding codeIn
-returns-4 c = rw (ne-eqb _ _ (c .before .before .before .before .before .if1 .left), c .before .before .before .before .if2 .left, c .before .before .before .if3 .left, sym (c .before .one-of .ensures) ∙ c .if4 .taken)
+returns-4 c =
+    let at-one-of = c .before in
+    let at-if3 = at-one-of .before .before in
+    let at-if2 = at-if3 .before in
+    let at-if1 = at-if2 .before in
+    rw (ne-eqb _ _ (at-if1 .if1 .left), at-if2 .if2 .left, at-if3 .if3 .left, sym (at-one-of .one-of .ensures) ∙ c .if4 .taken)
 
 returns-5 : tie.Need-returns-5
 unfolding codeIn
-returns-5 c = rw (ne-eqb _ _ (c .before .before .before .before .before .before .before .before .if1 .left), c .before .before .before .before .before .before .before .if2 .left, c .before .before .before .before .before .before .if3 .left, sym (c .before .before .before .before .one-of .ensures) ∙ c .before .before .before .if4 .left, sym (c .before .one-of2 .ensures) ∙ c .if5 .taken)
+returns-5 c =
+    let at-one-of2 = c .before in
+    let at-if4 = at-one-of2 .before .before in
+    let at-one-of = at-if4 .before in
+    let at-if3 = at-one-of .before .before in
+    let at-if2 = at-if3 .before in
+    let at-if1 = at-if2 .before in
+    rw (ne-eqb _ _ (at-if1 .if1 .left), at-if2 .if2 .left, at-if3 .if3 .left, sym (at-one-of .one-of .ensures) ∙ at-if4 .if4 .left, sym (at-one-of2 .one-of2 .ensures) ∙ c .if5 .taken)
 
 returns-6 : tie.Need-returns-6
 unfolding codeIn
-returns-6 c = rw (ne-eqb _ _ (c .before .before .before .before .before .before .before .before .before .before .if1 .left), c .before .before .before .before .before .before .before .before .before .if2 .left, c .before .before .before .before .before .before .before .before .if3 .left, sym (c .before .before .before .before .before .before .one-of .ensures) ∙ c .before .before .before .before .before .if4 .left, sym (c .before .before .before .one-of2 .ensures) ∙ c .before .before .if5 .left) (c .one-of3 .ensures)
+returns-6 c =
+    let at-if5 = c .before .before in
+    let at-one-of2 = at-if5 .before in
+    let at-if4 = at-one-of2 .before .before in
+    let at-one-of = at-if4 .before in
+    let at-if3 = at-one-of .before .before in
+    let at-if2 = at-if3 .before in
+    let at-if1 = at-if2 .before in
+    rw (ne-eqb _ _ (at-if1 .if1 .left), at-if2 .if2 .left, at-if3 .if3 .left, sym (at-one-of .one-of .ensures) ∙ at-if4 .if4 .left, sym (at-one-of2 .one-of2 .ensures) ∙ at-if5 .if5 .left) (c .one-of3 .ensures)
 
 pub code-in-spec : {M : Type 1} → statement M
 code-in-spec =

@@ -1,6 +1,6 @@
 -- `codes::piece_of` meets its contract: the tests that led to each return say which case of the definition holds. Assumes nothing.
 use mathlib.Core.Path.{sym, _∙_}
-use borrow.Author.Tests.{eq-eqb, ne-eqb, le-leb, lt-leb}
+use borrow.Author.Tests.{eq-eqb, ne-eqb}
 use Rattle.command.specs.Command.{pieceOf}
 use borrow.Author.Needs.{needs}
 use Rattle.command.proofs.codes.piece_of.Statement.{statement}

@@ -5,7 +5,11 @@ use Rattle.command.proofs.words.word_end.Statement.{statement}
 use Rattle.command.proofs.words.word_end.Tie as tie
 
 returns : tie.Need-returns
-returns c = word-quoted (c .before .before .before .before .before .args .s .now) (c .before .before .before .before .before .args .from) (c .before .before .if1 .taken) (c .before .quote-end .ensures) (c .space-at .ensures)
+returns c =
+    let at-quote-end = c .before in
+    let at-if1 = at-quote-end .before in
+    let start = at-if1 .before .before .before in
+    word-quoted (start .args .s .now) (start .args .from) (at-if1 .if1 .taken) (at-quote-end .quote-end .ensures) (c .space-at .ensures)
 
 returns-2 : tie.Need-returns-2
 returns-2 c = word-bare (c .before .before .before .before .args .s .now) (c .before .before .before .before .args .from) (c .before .if1 .left) (c .space-at2 .ensures)

@@ -23,15 +23,6 @@ abbrev μ-loop : tie.MeasureT-loop
 loop-holds : tie.Need-loop-holds Inv-loop μ-loop
 loop-holds c = let s = items-start (c .before .args .list .now) (c .before .pre) in (s .0, ap (λ (xs : List (List ℕ)). all fitItem xs) (sym (s .1)))
 
-read-requires : tie.Need-read-requires Inv-loop μ-loop
-read-requires c κs = search needs
-
-enum-known-end : tie.Need-enum-known-end Inv-loop μ-loop
-enum-known-end c = search needs
-
-enum-told : tie.Need-enum-told Inv-loop μ-loop
-enum-told c = search needs
-
 returns : tie.Need-returns Inv-loop μ-loop
 returns c = items-damaged (c .before .before .before .before .loop .inv .0) (c .before .before .before .loop-test .taken) (front-damaged _ _ (sym (c .before .before .read .ensures) ∙ c .enum-told .given .1))
 
@@ -41,29 +32,34 @@ add-body c = let r = front-record _ _ (sym (c .before .before .before .read .ens
 sub-is-fit-item : tie.Need-sub-is-fit-item Inv-loop μ-loop
 sub-is-fit-item c = let r = front-record _ _ (sym (c .before .before .before .read .ensures) ∙ c .before .end .given .1) in r .head-inside
 
-part-is-fit-item-start : tie.Need-part-is-fit-item-start Inv-loop μ-loop
-part-is-fit-item-start c = let r = front-record _ _ (sym (c .before .before .before .read .ensures) ∙ c .before .end .given .1) in r .head-inside
-
 part-is-fit-item-end : tie.Need-part-is-fit-item-end Inv-loop μ-loop
 part-is-fit-item-end c = let r = front-record _ _ (sym (c .before .before .before .read .ensures) ∙ c .before .end .given .1) in r .inside
 
-is-fit-item-requires : tie.Need-is-fit-item-requires Inv-loop μ-loop
-is-fit-item-requires c κs = search needs
-
 loop-less : tie.Need-loop-less Inv-loop μ-loop
-loop-less c = let r = front-record _ _ (sym (c .before .before .before .before .before .before .read .ensures) ∙ c .before .before .before .before .end .given .1) in omega arith
+loop-less c =
+    let at-end = c .before .before .before .before in
+    let at-read = at-end .before .before in
+    let r = front-record _ _ (sym (at-read .read .ensures) ∙ at-end .end .given .1) in omega arith
 
 loop-again : tie.Need-loop-again Inv-loop μ-loop
 unfolding all
 loop-again c =
-    let r = front-record _ _ (sym (c .before .before .before .before .before .before .read .ensures) ∙ c .before .before .before .before .end .given .1) in
-    (items-next (c .before .before .before .before .before .before .before .before .loop .inv .0) r, rw (items-cons (c .before .before .before .before .before .before .before .before .loop .inv .0) r, sym (c .before .is-fit-item .ensures) ∙ c .if1 .taken) at (c .before .before .before .before .before .before .before .before .loop .inv .1))
+    let at-is-fit-item = c .before in
+    let at-end = at-is-fit-item .before .before .before in
+    let at-read = at-end .before .before in
+    let at-loop = at-read .before .before in
+    let r = front-record _ _ (sym (at-read .read .ensures) ∙ at-end .end .given .1) in
+    (items-next (at-loop .loop .inv .0) r, rw (items-cons (at-loop .loop .inv .0) r, sym (at-is-fit-item .is-fit-item .ensures) ∙ c .if1 .taken) at (at-loop .loop .inv .1))
 
 returns-2 : tie.Need-returns-2 Inv-loop μ-loop
 unfolding all
 returns-2 c =
-    let r = front-record _ _ (sym (c .before .before .before .before .before .before .read .ensures) ∙ c .before .before .before .before .end .given .1) in
-    rw (items-cons (c .before .before .before .before .before .before .before .before .loop .inv .0) r, sym (c .before .is-fit-item .ensures) ∙ c .if1 .left) at (c .before .before .before .before .before .before .before .before .loop .inv .1)
+    let at-is-fit-item = c .before in
+    let at-end = at-is-fit-item .before .before .before in
+    let at-read = at-end .before .before in
+    let at-loop = at-read .before .before in
+    let r = front-record _ _ (sym (at-read .read .ensures) ∙ at-end .end .given .1) in
+    rw (items-cons (at-loop .loop .inv .0) r, sym (at-is-fit-item .is-fit-item .ensures) ∙ c .if1 .left) at (at-loop .loop .inv .1)
 
 returns-3 : tie.Need-returns-3 Inv-loop μ-loop
 unfolding all
@@ -76,15 +72,15 @@ are-fit-spec =
     Inv-loop
     μ-loop
     loop-holds
-    read-requires
-    enum-known-end
-    enum-told
+    (λ c κs. search needs)
+    (λ c. search needs)
+    (λ c. search needs)
     returns
     add-body
     sub-is-fit-item
-    part-is-fit-item-start
+    sub-is-fit-item
     part-is-fit-item-end
-    is-fit-item-requires
+    (λ c κs. search needs)
     loop-less
     loop-again
     returns-2

@@ -19,22 +19,19 @@ abbrev μ-loop : tie.MeasureT-loop
 loop-holds : tie.Need-loop-holds Inv-loop μ-loop
 loop-holds c = refl
 
-shared-slice-read-if1 : tie.Need-shared-slice-read-if1 Inv-loop μ-loop
-shared-slice-read-if1 c = search needs
-
 returns : tie.Need-returns Inv-loop μ-loop
 unfolding noZero all
-returns c = rw (here (c .before .before .before .before .args .s .now) (c .before .before .before .loop .i) (search needs), eq-eqb _ _ (c .if1 .taken)) at (c .before .before .before .loop .inv)
-
-add-i : tie.Need-add-i Inv-loop μ-loop
-add-i c = search needs
-
-loop-less : tie.Need-loop-less Inv-loop μ-loop
-loop-less c = search needs
+returns c =
+    let at-loop = c .before .before .before in
+    let start = at-loop .before in
+    rw (here (start .args .s .now) (at-loop .loop .i) (search needs), eq-eqb _ _ (c .if1 .taken)) at (at-loop .loop .inv)
 
 loop-again : tie.Need-loop-again Inv-loop μ-loop
 unfolding noZero all
-loop-again c = rw (here (c .before .before .before .before .args .s .now) (c .before .before .before .loop .i) (search needs), ne-eqb _ _ (c .if1 .left)) at (c .before .before .before .loop .inv)
+loop-again c =
+    let at-loop = c .before .before .before in
+    let start = at-loop .before in
+    rw (here (start .args .s .now) (at-loop .loop .i) (search needs), ne-eqb _ _ (c .if1 .left)) at (at-loop .loop .inv)
 
 returns-2 : tie.Need-returns-2 Inv-loop μ-loop
 unfolding noZero all
@@ -47,9 +44,9 @@ no-zero-spec =
     Inv-loop
     μ-loop
     loop-holds
-    shared-slice-read-if1
+    (λ c. search needs)
     returns
-    add-i
-    loop-less
+    (λ c. search needs)
+    (λ c. search needs)
     loop-again
     returns-2)

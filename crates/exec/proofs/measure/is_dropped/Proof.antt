@@ -21,25 +21,30 @@ abbrev μ-loop : tie.MeasureT-loop
 loop-holds : tie.Need-loop-holds Inv-loop μ-loop
 loop-holds c = refl
 
-piece-at-requires : tie.Need-piece-at-requires Inv-loop μ-loop
-piece-at-requires c κs = search needs
-
-is-nothing-requires : tie.Need-is-nothing-requires Inv-loop μ-loop
-is-nothing-requires c κs = search needs
-
-next-at-requires : tie.Need-next-at-requires Inv-loop μ-loop
-next-at-requires c κs = search needs
-
 loop-less : tie.Need-loop-less Inv-loop μ-loop
-loop-less c = omega (arith, pieces-further false (c .before .before .before .before .before .before .before .before .args .s .now) (c .before .before .before .before .before .loop .i) (c .next-at .ensures))
+loop-less c =
+    let at-loop = c .before .before .before .before .before in
+    let start = at-loop .before .before .before in
+    omega (arith, pieces-further false (start .args .s .now) (at-loop .loop .i) (c .next-at .ensures))
 
 loop-again : tie.Need-loop-again Inv-loop μ-loop
 unfolding all
-loop-again c = rw (pieces-next false (c .before .before .before .before .before .before .before .before .args .s .now) (c .before .before .before .before .before .loop .i) (c .next-at .ensures) (search needs) (c .before .before .before .piece-at .ensures), sym (c .before .before .is-nothing .ensures) ∙ c .before .if1 .taken) at (c .before .before .before .before .before .loop .inv)
+loop-again c =
+    let at-if1 = c .before in
+    let at-is-nothing = at-if1 .before in
+    let at-piece-at = at-is-nothing .before in
+    let at-loop = at-piece-at .before .before in
+    let start = at-loop .before .before .before in
+    rw (pieces-next false (start .args .s .now) (at-loop .loop .i) (c .next-at .ensures) (search needs) (at-piece-at .piece-at .ensures), sym (at-is-nothing .is-nothing .ensures) ∙ at-if1 .if1 .taken) at (at-loop .loop .inv)
 
 returns : tie.Need-returns Inv-loop μ-loop
 unfolding all
-returns c = rw (pieces-next false (c .before .before .before .before .before .before .before .args .s .now) (c .before .before .before .before .loop .i) refl (search needs) (c .before .before .piece-at .ensures), sym (c .before .is-nothing .ensures) ∙ c .if1 .left) at (c .before .before .before .before .loop .inv)
+returns c =
+    let at-is-nothing = c .before in
+    let at-piece-at = at-is-nothing .before in
+    let at-loop = at-piece-at .before .before in
+    let start = at-loop .before .before .before in
+    rw (pieces-next false (start .args .s .now) (at-loop .loop .i) refl (search needs) (at-piece-at .piece-at .ensures), sym (at-is-nothing .is-nothing .ensures) ∙ c .if1 .left) at (at-loop .loop .inv)
 
 returns-2 : tie.Need-returns-2 Inv-loop μ-loop
 unfolding all
@@ -52,9 +57,9 @@ is-dropped-spec =
     Inv-loop
     μ-loop
     loop-holds
-    piece-at-requires
-    is-nothing-requires
-    next-at-requires
+    (λ c κs. search needs)
+    (λ c κs. search needs)
+    (λ c κs. search needs)
     loop-less
     loop-again
     returns

@@ -20,41 +20,53 @@ abbrev μ-loop : tie.MeasureT-loop
 loop-holds : tie.Need-loop-holds Inv-loop μ-loop
 loop-holds c = measuring-start
 
-shared-slice-read-if1 : tie.Need-shared-slice-read-if1 Inv-loop μ-loop
-shared-slice-read-if1 c = search needs
-
-add-i : tie.Need-add-i Inv-loop μ-loop
-add-i c = search needs
-
-loop-less : tie.Need-loop-less Inv-loop μ-loop
-loop-less c = search needs
-
 loop-again : tie.Need-loop-again Inv-loop μ-loop
 loop-again c = measuring-space (c .before .before .before .loop .inv) (search needs) (c .if1 .taken)
 
-word-end-requires : tie.Need-word-end-requires Inv-loop μ-loop
-word-end-requires c κs = search needs
-
 sub-word-left : tie.Need-sub-word-left Inv-loop μ-loop
-sub-word-left c = omega (arith, word-ends (c .before .before .before .before .before .before .before .before .before .before .before .args .exec .now) (c .before .before .before .before .loop .i) (c .before .before .before .loop-test .taken) (c .before .if1 .left) (c .word-end .ensures))
-
-part-word-left-start : tie.Need-part-word-left-start Inv-loop μ-loop
-part-word-left-start c = omega (arith, word-ends (c .before .before .before .before .before .before .before .before .before .before .before .args .exec .now) (c .before .before .before .before .loop .i) (c .before .before .before .loop-test .taken) (c .before .if1 .left) (c .word-end .ensures))
+sub-word-left c =
+    let at-if1 = c .before in
+    let at-loop-test = at-if1 .before .before in
+    let at-loop = at-loop-test .before in
+    let start = at-loop .before .before .before .before .before .before .before in
+    omega (arith, word-ends (start .args .exec .now) (at-loop .loop .i) (at-loop-test .loop-test .taken) (at-if1 .if1 .left) (c .word-end .ensures))
 
 part-word-left-end : tie.Need-part-word-left-end Inv-loop μ-loop
-part-word-left-end c = omega (arith, word-ends (c .before .before .before .before .before .before .before .before .before .before .before .args .exec .now) (c .before .before .before .before .loop .i) (c .before .before .before .loop-test .taken) (c .before .if1 .left) (c .word-end .ensures))
+part-word-left-end c =
+    let at-if1 = c .before in
+    let at-loop-test = at-if1 .before .before in
+    let at-loop = at-loop-test .before in
+    let start = at-loop .before .before .before .before .before .before .before in
+    omega (arith, word-ends (start .args .exec .now) (at-loop .loop .i) (at-loop-test .loop-test .taken) (at-if1 .if1 .left) (c .word-end .ensures))
 
 word-left-requires : tie.Need-word-left-requires Inv-loop μ-loop
 word-left-requires c κs =
-    let e = word-ends (c .before .before .before .before .before .before .before .before .before .before .before .before .args .exec .now) (c .before .before .before .before .before .loop .i) (c .before .before .before .before .loop-test .taken) (c .before .before .if1 .left) (c .before .word-end .ensures) in
-    let l = length-part (c .before .before .before .before .before .loop .i) (c .before .word-end .result) (c .before .before .before .before .before .before .before .before .before .before .before .before .args .exec .now) (e .1) in
-    (omega arith, omega arith, c .before .before .before .before .before .before .before .before .before .before .before .before .pre .1)
+    let at-word-end = c .before in
+    let at-if1 = at-word-end .before in
+    let at-loop-test = at-if1 .before .before in
+    let at-loop = at-loop-test .before in
+    let start = at-loop .before .before .before .before .before .before .before in
+    let e = word-ends (start .args .exec .now) (at-loop .loop .i) (at-loop-test .loop-test .taken) (at-if1 .if1 .left) (at-word-end .word-end .ensures) in
+    let l = length-part (at-loop .loop .i) (at-word-end .word-end .result) (start .args .exec .now) (e .1) in
+    (omega arith, omega arith, start .pre .1)
 
 loop-less-2 : tie.Need-loop-less-2 Inv-loop μ-loop
-loop-less-2 c = omega (arith, word-ends (c .before .before .before .before .before .before .before .before .before .before .before .before .before .args .exec .now) (c .before .before .before .before .before .before .loop .i) (c .before .before .before .before .before .loop-test .taken) (c .before .before .before .if1 .left) (c .before .before .word-end .ensures))
+loop-less-2 c =
+    let at-word-end = c .before .before in
+    let at-if1 = at-word-end .before in
+    let at-loop-test = at-if1 .before .before in
+    let at-loop = at-loop-test .before in
+    let start = at-loop .before .before .before .before .before .before .before in
+    omega (arith, word-ends (start .args .exec .now) (at-loop .loop .i) (at-loop-test .loop-test .taken) (at-if1 .if1 .left) (at-word-end .word-end .ensures))
 
 loop-again-2 : tie.Need-loop-again-2 Inv-loop μ-loop
-loop-again-2 c = measuring-next (c .before .before .before .before .before .before .loop .inv) (c .before .before .before .before .before .loop-test .taken) (c .before .before .before .if1 .left) (c .before .before .word-end .ensures) (word-ends (c .before .before .before .before .before .before .before .before .before .before .before .before .before .args .exec .now) (c .before .before .before .before .before .before .loop .i) (c .before .before .before .before .before .loop-test .taken) (c .before .before .before .if1 .left) (c .before .before .word-end .ensures)) (c .word-left .ensures)
+loop-again-2 c =
+    let at-word-end = c .before .before in
+    let at-if1 = at-word-end .before in
+    let at-loop-test = at-if1 .before .before in
+    let at-loop = at-loop-test .before in
+    let start = at-loop .before .before .before .before .before .before .before in
+    measuring-next (at-loop .loop .inv) (at-loop-test .loop-test .taken) (at-if1 .if1 .left) (at-word-end .word-end .ensures) (word-ends (start .args .exec .now) (at-loop .loop .i) (at-loop-test .loop-test .taken) (at-if1 .if1 .left) (at-word-end .word-end .ensures)) (c .word-left .ensures)
 
 returns : tie.Need-returns Inv-loop μ-loop
 returns c = measuring-end (c .before .loop .inv) (c .loop-test .left)
@@ -66,13 +78,13 @@ run-left-spec =
     Inv-loop
     μ-loop
     loop-holds
-    shared-slice-read-if1
-    add-i
-    loop-less
+    (λ c. search needs)
+    (λ c. search needs)
+    (λ c. search needs)
     loop-again
-    word-end-requires
+    (λ c κs. search needs)
     sub-word-left
-    part-word-left-start
+    sub-word-left
     part-word-left-end
     word-left-requires
     loop-less-2

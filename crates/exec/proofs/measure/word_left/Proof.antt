@@ -13,41 +13,64 @@ use Rattle.exec.proofs.measure.word_left.Statement.{statement}
 use Rattle.exec.proofs.measure.word_left.Tie as tie
 
 part-text-left-end : tie.Need-part-text-left-end
-part-text-left-end c = omega (arith, quote-ends (c .before .before .before .before .before .before .before .before .before .before .args .word .now) (search needs) (c .quote-end .ensures))
+part-text-left-end c =
+    let start = c .before .before .before .before .before .before .before .before .before .before in
+    omega (arith, quote-ends (start .args .word .now) (search needs) (c .quote-end .ensures))
 
 text-left-requires : tie.Need-text-left-requires
 text-left-requires c κs =
-    let q = quote-ends (c .before .before .before .before .before .before .before .before .before .before .before .args .word .now) (search needs) (c .before .quote-end .ensures) in
-    omega (arith, length-part 1 (c .before .quote-end .result) (c .before .before .before .before .before .before .before .before .before .before .before .args .word .now) (q .1))
+    let at-quote-end = c .before in
+    let start = at-quote-end .before .before .before .before .before .before .before .before .before .before in
+    let q = quote-ends (start .args .word .now) (search needs) (at-quote-end .quote-end .ensures) in
+    omega (arith, length-part 1 (at-quote-end .quote-end .result) (start .args .word .now) (q .1))
 
 returns : tie.Need-returns
 returns c =
-    let a = c .before .before .before .before .before .before .before .before .before .before .before .args in
-    rw (dropped-records (runOf (putOf (a .item .now) (a .name .now) (a .location .now)) (itemsIn (a .list .now)) (a .icon .now)) (a .word .now) (sym (c .before .before .enum-told4 .given .1) ∙ c .before .before .before .before .form-of .ensures) (sym (c .before .is-dropped .ensures) ∙ c .if1 .taken))
+    let at-is-dropped = c .before in
+    let at-enum-told4 = at-is-dropped .before in
+    let at-form-of = at-enum-told4 .before .before in
+    let start = at-form-of .before .before .before .before .before .before .before in
+    let a = start .args in
+    rw (dropped-records (runOf (putOf (a .item .now) (a .name .now) (a .location .now)) (itemsIn (a .list .now)) (a .icon .now)) (a .word .now) (sym (at-enum-told4 .enum-told4 .given .1) ∙ at-form-of .form-of .ensures) (sym (at-is-dropped .is-dropped .ensures) ∙ c .if1 .taken))
     (sym (spend-zero (a .left)))
 
 returns-2 : tie.Need-returns-2
 returns-2 c =
-    let a = c .before .before .before .before .before .before .before .before .before .before .args in
-    rw (files-records (runOf (putOf (a .item .now) (a .name .now) (a .location .now)) (itemsIn (a .list .now)) (a .icon .now)) (a .word .now) (sym (c .before .enum-told .given .1) ∙ c .before .before .before .form-of .ensures), items-length 3 (a .list .now) (c .before .before .before .before .before .before .before .before .before .before .pre .2))
+    let at-enum-told = c .before in
+    let at-form-of = at-enum-told .before .before in
+    let start = at-form-of .before .before .before .before .before .before .before in
+    let a = start .args in
+    rw (files-records (runOf (putOf (a .item .now) (a .name .now) (a .location .now)) (itemsIn (a .list .now)) (a .icon .now)) (a .word .now) (sym (at-enum-told .enum-told .given .1) ∙ at-form-of .form-of .ensures), items-length 3 (a .list .now) (start .pre .2))
     (c .spend .ensures)
 
 returns-3 : tie.Need-returns-3
 returns-3 c =
-    let a = c .before .before .before .before .before .before .before .before .before .before .args in
-    rw (icon-records (runOf (putOf (a .item .now) (a .name .now) (a .location .now)) (itemsIn (a .list .now)) (a .icon .now)) (a .word .now) (sym (c .before .enum-told2 .given .1) ∙ c .before .before .before .form-of .ensures))
+    let at-enum-told2 = c .before in
+    let at-form-of = at-enum-told2 .before .before in
+    let start = at-form-of .before .before .before .before .before .before .before in
+    let a = start .args in
+    rw (icon-records (runOf (putOf (a .item .now) (a .name .now) (a .location .now)) (itemsIn (a .list .now)) (a .icon .now)) (a .word .now) (sym (at-enum-told2 .enum-told2 .given .1) ∙ at-form-of .form-of .ensures))
     (c .icon-left .ensures)
 
 returns-4 : tie.Need-returns-4
 returns-4 c =
-    let a = c .before .before .before .before .before .before .before .before .before .before .before .before .args in
-    rw (quoted-records (runOf (putOf (a .item .now) (a .name .now) (a .location .now)) (itemsIn (a .list .now)) (a .icon .now)) (a .word .now) (sym (c .before .before .before .enum-told3 .given .1) ∙ c .before .before .before .before .before .form-of .ensures) (c .before .before .quote-end .ensures))
+    let at-quote-end = c .before .before in
+    let at-enum-told3 = at-quote-end .before in
+    let at-form-of = at-enum-told3 .before .before in
+    let start = at-form-of .before .before .before .before .before .before .before in
+    let a = start .args in
+    rw (quoted-records (runOf (putOf (a .item .now) (a .name .now) (a .location .now)) (itemsIn (a .list .now)) (a .icon .now)) (a .word .now) (sym (at-enum-told3 .enum-told3 .given .1) ∙ at-form-of .form-of .ensures) (at-quote-end .quote-end .ensures))
     (c .text-left .ensures)
 
 returns-5 : tie.Need-returns-5
 returns-5 c =
-    let a = c .before .before .before .before .before .before .before .before .before .before .before .before .args in
-    rw (bare-records (runOf (putOf (a .item .now) (a .name .now) (a .location .now)) (itemsIn (a .list .now)) (a .icon .now)) (a .word .now) (sym (c .before .before .before .enum-told4 .given .1) ∙ c .before .before .before .before .before .form-of .ensures) (sym (c .before .before .is-dropped .ensures) ∙ c .before .if1 .left))
+    let at-if1 = c .before in
+    let at-is-dropped = at-if1 .before in
+    let at-enum-told4 = at-is-dropped .before in
+    let at-form-of = at-enum-told4 .before .before in
+    let start = at-form-of .before .before .before .before .before .before .before in
+    let a = start .args in
+    rw (bare-records (runOf (putOf (a .item .now) (a .name .now) (a .location .now)) (itemsIn (a .list .now)) (a .icon .now)) (a .word .now) (sym (at-enum-told4 .enum-told4 .given .1) ∙ at-form-of .form-of .ensures) (sym (at-is-dropped .is-dropped .ensures) ∙ at-if1 .if1 .left))
     (c .text-left2 .ensures)
 
 pub word-left-spec : {M : Type 1} → statement M

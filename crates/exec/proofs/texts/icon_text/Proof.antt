@@ -2,33 +2,53 @@
 use native.Mathlib.Omega.{arith}
 use mathlib.Core.Path.{sym, _∙_}
 use Rattle.base.specs.Lists.{ascii}
-use Rattle.exec.proofs.Values.{chosen-value, value-short, icon-found, icon-missing, icon-unasked, read-none, read-refused}
+use Rattle.exec.proofs.Values.{chosen-value, value-short, icon-found, icon-missing, icon-unasked, read-none}
 use borrow.Author.Needs.{needs}
 use Rattle.exec.proofs.texts.icon_text.Statement.{statement}
 use Rattle.exec.proofs.texts.icon_text.Tie as tie
 
 returns : tie.Need-returns
-returns c = rw (c .before .before .before .before .if1 .taken, icon-missing (c .before .before .before .before .before .before .before .before .before .args .file .now) (c .before .before .before .before .before .before .before .before .before .args .locale .now) (c .before .before .before .before .before .before .before .before .before .args .group .now) (sym (c .before .before .choose-row .ensures) ∙ c .enum-told .given .1)) (read-none (c .before .before .before .before .before .before .before .before .before .args .out .now))
+returns c =
+    let at-choose-row = c .before .before in
+    let at-if1 = at-choose-row .before .before in
+    let start = at-if1 .before .before .before .before .before in
+    rw (at-if1 .if1 .taken, icon-missing (start .args .file .now) (start .args .locale .now) (start .args .group .now) (sym (at-choose-row .choose-row .ensures) ∙ c .enum-told .given .1)) (read-none (start .args .out .now))
 
 sub-read-whole : tie.Need-sub-read-whole
-sub-read-whole c = chosen-value (c .before .before .before .before .before .before .before .before .before .before .args .file .now) (c .before .before .before .before .before .before .before .before .before .before .args .group .now) (ascii "Icon") (c .before .before .before .before .before .before .before .before .before .before .args .locale .now) (sym (c .before .before .before .choose-row .ensures) ∙ c .before .end .given .1) .ordered
-
-part-read-whole-start : tie.Need-part-read-whole-start
-part-read-whole-start c = chosen-value (c .before .before .before .before .before .before .before .before .before .before .args .file .now) (c .before .before .before .before .before .before .before .before .before .before .args .group .now) (ascii "Icon") (c .before .before .before .before .before .before .before .before .before .before .args .locale .now) (sym (c .before .before .before .choose-row .ensures) ∙ c .before .end .given .1) .ordered
+sub-read-whole c =
+    let at-end = c .before in
+    let at-choose-row = at-end .before .before in
+    let start = at-choose-row .before .before .before .before .before .before .before in
+    chosen-value (start .args .file .now) (start .args .group .now) (ascii "Icon") (start .args .locale .now) (sym (at-choose-row .choose-row .ensures) ∙ at-end .end .given .1) .ordered
 
 part-read-whole-end : tie.Need-part-read-whole-end
-part-read-whole-end c = chosen-value (c .before .before .before .before .before .before .before .before .before .before .args .file .now) (c .before .before .before .before .before .before .before .before .before .before .args .group .now) (ascii "Icon") (c .before .before .before .before .before .before .before .before .before .before .args .locale .now) (sym (c .before .before .before .choose-row .ensures) ∙ c .before .end .given .1) .inside
+part-read-whole-end c =
+    let at-end = c .before in
+    let at-choose-row = at-end .before .before in
+    let start = at-choose-row .before .before .before .before .before .before .before in
+    chosen-value (start .args .file .now) (start .args .group .now) (ascii "Icon") (start .args .locale .now) (sym (at-choose-row .choose-row .ensures) ∙ at-end .end .given .1) .inside
 
 read-whole-requires : tie.Need-read-whole-requires
 read-whole-requires c κs =
-    let v = chosen-value (c .before .before .before .before .before .before .before .before .before .before .before .before .args .file .now) (c .before .before .before .before .before .before .before .before .before .before .before .before .args .group .now) (ascii "Icon") (c .before .before .before .before .before .before .before .before .before .before .before .before .args .locale .now) (sym (c .before .before .before .before .before .choose-row .ensures) ∙ c .before .before .before .end .given .1) in
+    let at-end = c .before .before .before in
+    let at-choose-row = at-end .before .before in
+    let start = at-choose-row .before .before .before .before .before .before .before in
+    let v = chosen-value (start .args .file .now) (start .args .group .now) (ascii "Icon") (start .args .locale .now) (sym (at-choose-row .choose-row .ensures) ∙ at-end .end .given .1) in
     omega (arith, value-short v)
 
 returns-2 : tie.Need-returns-2
-returns-2 c = rw (c .before .before .before .before .before .before .before .before .before .before .if1 .taken, icon-found (c .before .before .before .before .before .before .before .before .before .before .before .before .before .before .before .args .file .now) (c .before .before .before .before .before .before .before .before .before .before .before .before .before .before .before .args .locale .now) (c .before .before .before .before .before .before .before .before .before .before .before .before .before .before .before .args .group .now) (chosen-value (c .before .before .before .before .before .before .before .before .before .before .before .before .before .before .before .args .file .now) (c .before .before .before .before .before .before .before .before .before .before .before .before .before .before .before .args .group .now) (ascii "Icon") (c .before .before .before .before .before .before .before .before .before .before .before .before .before .before .before .args .locale .now) (sym (c .before .before .before .before .before .before .before .before .choose-row .ensures) ∙ c .before .before .before .before .before .before .end .given .1))) (c .before .before .read-whole .ensures)
+returns-2 c =
+    let at-read-whole = c .before .before in
+    let at-end = at-read-whole .before .before .before .before in
+    let at-choose-row = at-end .before .before in
+    let at-if1 = at-choose-row .before .before in
+    let start = at-if1 .before .before .before .before .before in
+    rw (at-if1 .if1 .taken, icon-found (start .args .file .now) (start .args .locale .now) (start .args .group .now) (chosen-value (start .args .file .now) (start .args .group .now) (ascii "Icon") (start .args .locale .now) (sym (at-choose-row .choose-row .ensures) ∙ at-end .end .given .1))) (at-read-whole .read-whole .ensures)
 
 returns-3 : tie.Need-returns-3
-returns-3 c = rw (c .if1 .left, icon-unasked (c .before .before .before .before .before .args .file .now) (c .before .before .before .before .before .args .locale .now) (c .before .before .before .before .before .args .group .now)) (read-none (c .before .before .before .before .before .args .out .now))
+returns-3 c =
+    let start = c .before .before .before .before .before in
+    rw (c .if1 .left, icon-unasked (start .args .file .now) (start .args .locale .now) (start .args .group .now)) (read-none (start .args .out .now))
 
 pub icon-text-spec : {M : Type 1} → statement M
 icon-text-spec =
@@ -40,7 +60,7 @@ icon-text-spec =
     (λ c. search needs)
     returns
     sub-read-whole
-    part-read-whole-start
+    sub-read-whole
     part-read-whole-end
     read-whole-requires
     (λ c. search needs)

@@ -7,7 +7,10 @@ use Rattle.exec.proofs.texts.read_whole.Statement.{statement}
 use Rattle.exec.proofs.texts.read_whole.Tie as tie
 
 returns : tie.Need-returns
-returns c = read-room (readText (c .before .before .before .before .before .before .args .raw .now)) (c .before .before .before .before .before .before .args .out .now) (omega (arith, read-le (c .before .before .before .before .before .before .args .raw .now))) (c .before .before .read-text .ensures)
+returns c =
+    let at-read-text = c .before .before in
+    let start = at-read-text .before .before .before .before in
+    read-room (readText (start .args .raw .now)) (start .args .out .now) (omega (arith, read-le (start .args .raw .now))) (at-read-text .read-text .ensures)
 
 pub read-whole-spec : {M : Type 1} → statement M
 read-whole-spec =

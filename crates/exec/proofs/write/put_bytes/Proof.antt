@@ -7,7 +7,10 @@ use Rattle.exec.proofs.write.put_bytes.Statement.{statement}
 use Rattle.exec.proofs.write.put_bytes.Tie as tie
 
 returns : tie.Need-returns
-returns c = (refl, over-tail (c .before .before .before .before .before .before .args .out .now) (c .before .before .before .before .before .before .args .at) (c .before .before .before .before .before .before .args .x .now) (copied (lent (c .before .before .before .before .before .before .args .at) (c .before .before .before .before .before .before .args .out .now)) (c .before .before .before .before .before .before .args .x .now) (c .before .before .copy .ensures .1)))
+returns c =
+    let at-copy = c .before .before in
+    let start = at-copy .before .before .before .before in
+    (refl, over-tail (start .args .out .now) (start .args .at) (start .args .x .now) (copied (lent (start .args .at) (start .args .out .now)) (start .args .x .now) (at-copy .copy .ensures .1)))
 
 pub put-bytes-spec : {M : Type 1} → statement M
 put-bytes-spec =

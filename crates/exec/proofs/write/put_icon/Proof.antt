@@ -15,12 +15,20 @@ put-requires : tie.Need-put-requires
 put-requires c κs = omega (arith, icon-some (c .before .before .before .before .before .args .icon .now) (c .before .before .if1 .left))
 
 put-requires-2 : tie.Need-put-requires-2
-put-requires-2 c κs = omega (arith, icon-some (c .before .before .before .before .before .before .before .before .before .args .icon .now) (c .before .before .before .before .before .before .if1 .left), c .before .before .before .put .ensures .0)
+put-requires-2 c κs =
+    let at-put = c .before .before .before in
+    let at-if1 = at-put .before .before .before in
+    let start = at-if1 .before .before .before in
+    omega (arith, icon-some (start .args .icon .now) (at-if1 .if1 .left), at-put .put .ensures .0)
 
 returns-2 : tie.Need-returns-2
 returns-2 c =
-    rw (icon-two (c .before .before .before .before .before .before .before .before .before .before .before .before .args .icon .now) (c .before .before .before .before .before .before .before .before .before .if1 .left))
-    (wrote-then (wrote-record (ascii "--icon") (c .before .before .before .before .before .before .put .ensures)) (wrote-record (c .before .before .before .before .before .before .before .before .before .before .before .before .args .icon .now) (c .before .before .put2 .ensures)) (omega (arith, icon-some (c .before .before .before .before .before .before .before .before .before .before .before .before .args .icon .now) (c .before .before .before .before .before .before .before .before .before .if1 .left), c .before .before .before .before .before .before .put .ensures .0)))
+    let at-put2 = c .before .before in
+    let at-put = at-put2 .before .before .before .before in
+    let at-if1 = at-put .before .before .before in
+    let start = at-if1 .before .before .before in
+    rw (icon-two (start .args .icon .now) (at-if1 .if1 .left))
+    (wrote-then (wrote-record (ascii "--icon") (at-put .put .ensures)) (wrote-record (start .args .icon .now) (at-put2 .put2 .ensures)) (omega (arith, icon-some (start .args .icon .now) (at-if1 .if1 .left), at-put .put .ensures .0)))
 
 pub put-icon-spec : {M : Type 1} → statement M
 put-icon-spec =

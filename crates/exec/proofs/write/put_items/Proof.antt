@@ -21,18 +21,6 @@ abbrev μ-loop : tie.MeasureT-loop
 loop-holds : tie.Need-loop-holds Inv-loop μ-loop
 loop-holds c = items-begin (c .before .before .args .list .now) (c .before .before .args .out .now) (c .before .before .pre .0) (c .before .before .pre .1)
 
-read-requires : tie.Need-read-requires Inv-loop μ-loop
-read-requires c κs = search needs
-
-enum-known-end : tie.Need-enum-known-end Inv-loop μ-loop
-enum-known-end c = search needs
-
-enum-told : tie.Need-enum-told Inv-loop μ-loop
-enum-told c = search needs
-
-same-length : tie.Need-same-length Inv-loop μ-loop
-same-length c = search needs
-
 returns : tie.Need-returns Inv-loop μ-loop
 returns c = items-damaged (c .before .before .before .before .loop .inv .0) (c .before .before .before .loop-test .taken) (front-damaged _ _ (sym (c .before .before .read .ensures) ∙ c .enum-told .given .1))
 
@@ -42,23 +30,29 @@ add-body c = let r = front-record _ _ (sym (c .before .before .before .read .ens
 sub-put : tie.Need-sub-put Inv-loop μ-loop
 sub-put c = let r = front-record _ _ (sym (c .before .before .before .before .read .ensures) ∙ c .before .before .end .given .1) in r .head-inside
 
-part-put-start : tie.Need-part-put-start Inv-loop μ-loop
-part-put-start c = let r = front-record _ _ (sym (c .before .before .before .before .read .ensures) ∙ c .before .before .end .given .1) in r .head-inside
-
 part-put-end : tie.Need-part-put-end Inv-loop μ-loop
 part-put-end c = let r = front-record _ _ (sym (c .before .before .before .before .read .ensures) ∙ c .before .before .end .given .1) in r .inside
 
 put-requires : tie.Need-put-requires Inv-loop μ-loop
-put-requires c κs = items-room (c .before .before .before .before .before .before .before .loop .inv .0) (c .before .before .before .before .before .before .before .loop .inv .1) (front-record _ _ (sym (c .before .before .before .before .before .read .ensures) ∙ c .before .before .before .end .given .1))
+put-requires c κs =
+    let at-end = c .before .before .before in
+    let at-read = at-end .before .before in
+    let at-loop = at-read .before .before in
+    items-room (at-loop .loop .inv .0) (at-loop .loop .inv .1) (front-record _ _ (sym (at-read .read .ensures) ∙ at-end .end .given .1))
 
 loop-less : tie.Need-loop-less Inv-loop μ-loop
-loop-less c = let r = front-record _ _ (sym (c .before .before .before .before .before .before .before .before .read .ensures) ∙ c .before .before .before .before .before .before .end .given .1) in omega arith
+loop-less c =
+    let at-end = c .before .before .before .before .before .before in
+    let at-read = at-end .before .before in
+    let r = front-record _ _ (sym (at-read .read .ensures) ∙ at-end .end .given .1) in omega arith
 
 loop-again : tie.Need-loop-again Inv-loop μ-loop
-loop-again c = let r = front-record _ _ (sym (c .before .before .before .before .before .before .before .before .read .ensures) ∙ c .before .before .before .before .before .before .end .given .1) in (items-next (c .before .before .before .before .before .before .before .before .before .before .loop .inv .0) r, items-filled (c .before .before .before .before .before .before .before .before .before .before .loop .inv .0) (c .before .before .before .before .before .before .before .before .before .before .loop .inv .1) r (c .before .before .put .ensures))
-
-same-length-2 : tie.Need-same-length-2 Inv-loop μ-loop
-same-length-2 c = search needs
+loop-again c =
+    let at-put = c .before .before in
+    let at-end = at-put .before .before .before .before in
+    let at-read = at-end .before .before in
+    let at-loop = at-read .before .before in
+    let r = front-record _ _ (sym (at-read .read .ensures) ∙ at-end .end .given .1) in (items-next (at-loop .loop .inv .0) r, items-filled (at-loop .loop .inv .0) (at-loop .loop .inv .1) r (at-put .put .ensures))
 
 returns-2 : tie.Need-returns-2 Inv-loop μ-loop
 returns-2 c = items-end (c .before .before .before .before .args .list .now) (c .before .loop .from) (c .before .loop .inv .1) (c .loop-test .left)
@@ -70,17 +64,17 @@ put-items-spec =
     Inv-loop
     μ-loop
     loop-holds
-    read-requires
-    enum-known-end
-    enum-told
-    same-length
+    (λ c κs. search needs)
+    (λ c. search needs)
+    (λ c. search needs)
+    (λ c. search needs)
     returns
     add-body
     sub-put
-    part-put-start
+    sub-put
     part-put-end
     put-requires
     loop-less
     loop-again
-    same-length-2
+    (λ c. search needs)
     returns-2)

@@ -6,7 +6,10 @@ use Rattle.exec.proofs.write.put_piece.Tie as tie
 
 put-bytes-requires : tie.Need-put-bytes-requires
 unfolding pieceBytes
-put-bytes-requires c κs = rw (c .before .before .before .p .given .1) at (c .before .before .before .before .before .before .before .before .before .pre)
+put-bytes-requires c κs =
+    let at-p = c .before .before .before in
+    let start = at-p .before .before .before .before .before .before in
+    rw (at-p .p .given .1) at (start .pre)
 
 put-bytes-requires-2 : tie.Need-put-bytes-requires-2
 unfolding pieceBytes

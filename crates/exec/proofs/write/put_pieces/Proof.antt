@@ -4,7 +4,7 @@ use native.Mathlib.Omega.{arith}
 use mathlib.Core.Path.{refl}
 use Prim.Native.Nat.{_-_}
 use lib.ListN.{length}
-use Rattle.command.specs.Command.{piecesOf, widthOf}
+use Rattle.command.specs.Command.{piecesOf}
 use Rattle.command.proofs.Pieces.{piecesAt, pieces-further}
 use Rattle.exec.specs.Run.{pieceBytes, piecesBytes}
 use Rattle.exec.specs.Step.{putOf}
@@ -21,29 +21,32 @@ abbrev μ-loop : tie.MeasureT-loop
 loop-holds : tie.Need-loop-holds Inv-loop μ-loop
 loop-holds c = filling-start (c .before .before .before .before .before .pre .1)
 
-piece-at-requires : tie.Need-piece-at-requires Inv-loop μ-loop
-piece-at-requires c κs = search needs
-
 put-piece-requires : tie.Need-put-piece-requires Inv-loop μ-loop
 put-piece-requires c κs =
-    let a = c .before .before .before .before .before .before .before .before .before .args in
+    let at-piece-at = c .before in
+    let at-loop-test = at-piece-at .before in
+    let at-loop = at-loop-test .before in
+    let start = at-loop .before .before .before .before .before .before in
+    let a = start .args in
     let x = putOf (a .item .now) (a .name .now) (a .location .now) in
-    filling-room (c .before .before .before .loop .inv) (pieceBytes x (c .before .piece-at .result)) _ (bytes-next x (a .quoted) (a .s .now) (c .before .before .before .loop .i) (c .before .before .loop-test .taken) (c .before .piece-at .ensures) refl)
-
-next-at-requires : tie.Need-next-at-requires Inv-loop μ-loop
-next-at-requires c κs = search needs
+    filling-room (at-loop .loop .inv) (pieceBytes x (at-piece-at .piece-at .result)) _ (bytes-next x (a .quoted) (a .s .now) (at-loop .loop .i) (at-loop-test .loop-test .taken) (at-piece-at .piece-at .ensures) refl)
 
 loop-less : tie.Need-loop-less Inv-loop μ-loop
-loop-less c = omega (arith, pieces-further (c .before .before .before .before .before .before .before .before .before .before .before .before .before .args .quoted) (c .before .before .before .before .before .before .before .before .before .before .before .before .before .args .s .now) (c .before .before .before .before .before .before .before .loop .i) (c .next-at .ensures))
+loop-less c =
+    let at-loop = c .before .before .before .before .before .before .before in
+    let start = at-loop .before .before .before .before .before .before in
+    omega (arith, pieces-further (start .args .quoted) (start .args .s .now) (at-loop .loop .i) (c .next-at .ensures))
 
 loop-again : tie.Need-loop-again Inv-loop μ-loop
 loop-again c =
-    let a = c .before .before .before .before .before .before .before .before .before .before .before .before .before .args in
+    let at-put-piece = c .before .before .before in
+    let at-piece-at = at-put-piece .before .before in
+    let at-loop-test = at-piece-at .before in
+    let at-loop = at-loop-test .before in
+    let start = at-loop .before .before .before .before .before .before in
+    let a = start .args in
     let x = putOf (a .item .now) (a .name .now) (a .location .now) in
-    filling-next (c .before .before .before .before .before .before .before .loop .inv) (pieceBytes x (c .before .before .before .before .before .piece-at .result)) _ (bytes-next x (a .quoted) (a .s .now) (c .before .before .before .before .before .before .before .loop .i) (c .before .before .before .before .before .before .loop-test .taken) (c .before .before .before .before .before .piece-at .ensures) (c .next-at .ensures)) (c .before .before .before .put-piece .ensures)
-
-same-length : tie.Need-same-length Inv-loop μ-loop
-same-length c = search needs
+    filling-next (at-loop .loop .inv) (pieceBytes x (at-piece-at .piece-at .result)) _ (bytes-next x (a .quoted) (a .s .now) (at-loop .loop .i) (at-loop-test .loop-test .taken) (at-piece-at .piece-at .ensures) (c .next-at .ensures)) (at-put-piece .put-piece .ensures)
 
 returns : tie.Need-returns Inv-loop μ-loop
 returns c =
@@ -57,10 +60,10 @@ put-pieces-spec =
     Inv-loop
     μ-loop
     loop-holds
-    piece-at-requires
+    (λ c κs. search needs)
     put-piece-requires
-    next-at-requires
+    (λ c κs. search needs)
     loop-less
     loop-again
-    same-length
+    (λ c. search needs)
     returns)

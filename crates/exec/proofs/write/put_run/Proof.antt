@@ -1,7 +1,6 @@
 -- `write::put_run` meets its contract: what is written and the records of the words from `i` on make the whole. Assumes nothing.
 use borrow.Author.Needs.{needs}
 use native.Mathlib.Omega.{arith}
-use mathlib.Core.Path.{sym}
 use Prim.Native.Nat.{_-_}
 use lib.ListN.{length}
 use Rattle.base.specs.Lists.{part}
@@ -24,58 +23,74 @@ abbrev μ-loop : tie.MeasureT-loop
 loop-holds : tie.Need-loop-holds Inv-loop μ-loop
 loop-holds c = filling-start (c .before .before .before .before .before .before .before .pre .2)
 
-shared-slice-read-if1 : tie.Need-shared-slice-read-if1 Inv-loop μ-loop
-shared-slice-read-if1 c = search needs
-
-add-i : tie.Need-add-i Inv-loop μ-loop
-add-i c = search needs
-
-loop-less : tie.Need-loop-less Inv-loop μ-loop
-loop-less c = search needs
-
 loop-again : tie.Need-loop-again Inv-loop μ-loop
 loop-again c =
-    let a = c .before .before .before .before .before .before .before .before .before .before .before .args in
+    let at-loop-test = c .before .before in
+    let at-loop = at-loop-test .before in
+    let start = at-loop .before .before .before .before .before .before .before .before in
+    let a = start .args in
     let r = runOf (putOf (a .item .now) (a .name .now) (a .location .now)) (itemsIn (a .list .now)) (a .icon .now) in
-    filling-as (c .before .before .before .loop .inv) (records-space r (a .exec .now) (c .before .before .before .loop .i) (c .before .before .loop-test .taken) (c .if1 .taken))
-
-word-end-requires : tie.Need-word-end-requires Inv-loop μ-loop
-word-end-requires c κs = search needs
+    filling-as (at-loop .loop .inv) (records-space r (a .exec .now) (at-loop .loop .i) (at-loop-test .loop-test .taken) (c .if1 .taken))
 
 sub-put-word : tie.Need-sub-put-word Inv-loop μ-loop
-sub-put-word c = omega (arith, word-ends (c .before .before .before .before .before .before .before .before .before .before .before .before .before .args .exec .now) (c .before .before .before .before .before .loop .i) (c .before .before .before .before .loop-test .taken) (c .before .before .if1 .left) (c .before .word-end .ensures))
-
-part-put-word-start : tie.Need-part-put-word-start Inv-loop μ-loop
-part-put-word-start c = omega (arith, word-ends (c .before .before .before .before .before .before .before .before .before .before .before .before .before .args .exec .now) (c .before .before .before .before .before .loop .i) (c .before .before .before .before .loop-test .taken) (c .before .before .if1 .left) (c .before .word-end .ensures))
+sub-put-word c =
+    let at-word-end = c .before in
+    let at-if1 = at-word-end .before in
+    let at-loop-test = at-if1 .before .before in
+    let at-loop = at-loop-test .before in
+    let start = at-loop .before .before .before .before .before .before .before .before in
+    omega (arith, word-ends (start .args .exec .now) (at-loop .loop .i) (at-loop-test .loop-test .taken) (at-if1 .if1 .left) (at-word-end .word-end .ensures))
 
 part-put-word-end : tie.Need-part-put-word-end Inv-loop μ-loop
-part-put-word-end c = omega (arith, word-ends (c .before .before .before .before .before .before .before .before .before .before .before .before .before .args .exec .now) (c .before .before .before .before .before .loop .i) (c .before .before .before .before .loop-test .taken) (c .before .before .if1 .left) (c .before .word-end .ensures))
+part-put-word-end c =
+    let at-word-end = c .before in
+    let at-if1 = at-word-end .before in
+    let at-loop-test = at-if1 .before .before in
+    let at-loop = at-loop-test .before in
+    let start = at-loop .before .before .before .before .before .before .before .before in
+    omega (arith, word-ends (start .args .exec .now) (at-loop .loop .i) (at-loop-test .loop-test .taken) (at-if1 .if1 .left) (at-word-end .word-end .ensures))
 
 put-word-requires : tie.Need-put-word-requires Inv-loop μ-loop
 put-word-requires c κs =
-    let a = c .before .before .before .before .before .before .before .before .before .before .before .before .before .before .args in
+    let at-word-end = c .before .before in
+    let at-if1 = at-word-end .before in
+    let at-loop-test = at-if1 .before .before in
+    let at-loop = at-loop-test .before in
+    let start = at-loop .before .before .before .before .before .before .before .before in
+    let a = start .args in
     let r = runOf (putOf (a .item .now) (a .name .now) (a .location .now)) (itemsIn (a .list .now)) (a .icon .now) in
-    let e = word-ends (a .exec .now) (c .before .before .before .before .before .before .loop .i) (c .before .before .before .before .before .loop-test .taken) (c .before .before .before .if1 .left) (c .before .before .word-end .ensures) in
-    let l = length-part (c .before .before .before .before .before .before .loop .i) (c .before .before .word-end .result) (a .exec .now) (e .1) in
-    (omega arith, omega arith, c .before .before .before .before .before .before .before .before .before .before .before .before .before .before .pre .1, filling-room (c .before .before .before .before .before .before .loop .inv) (wordRecords r (part (c .before .before .before .before .before .before .loop .i) (c .before .before .word-end .result) (a .exec .now))) _ (records-word r (a .exec .now) (c .before .before .before .before .before .before .loop .i) (c .before .before .before .before .before .loop-test .taken) (c .before .before .before .if1 .left) (c .before .before .word-end .ensures)))
+    let e = word-ends (a .exec .now) (at-loop .loop .i) (at-loop-test .loop-test .taken) (at-if1 .if1 .left) (at-word-end .word-end .ensures) in
+    let l = length-part (at-loop .loop .i) (at-word-end .word-end .result) (a .exec .now) (e .1) in
+    (omega arith, omega arith, start .pre .1, filling-room (at-loop .loop .inv) (wordRecords r (part (at-loop .loop .i) (at-word-end .word-end .result) (a .exec .now))) _ (records-word r (a .exec .now) (at-loop .loop .i) (at-loop-test .loop-test .taken) (at-if1 .if1 .left) (at-word-end .word-end .ensures)))
 
 loop-less-2 : tie.Need-loop-less-2 Inv-loop μ-loop
-loop-less-2 c = omega (arith, word-ends (c .before .before .before .before .before .before .before .before .before .before .before .before .before .before .before .before .before .args .exec .now) (c .before .before .before .before .before .before .before .before .before .loop .i) (c .before .before .before .before .before .before .before .before .loop-test .taken) (c .before .before .before .before .before .before .if1 .left) (c .before .before .before .before .before .word-end .ensures))
+loop-less-2 c =
+    let at-word-end = c .before .before .before .before .before in
+    let at-if1 = at-word-end .before in
+    let at-loop-test = at-if1 .before .before in
+    let at-loop = at-loop-test .before in
+    let start = at-loop .before .before .before .before .before .before .before .before in
+    omega (arith, word-ends (start .args .exec .now) (at-loop .loop .i) (at-loop-test .loop-test .taken) (at-if1 .if1 .left) (at-word-end .word-end .ensures))
 
 loop-again-2 : tie.Need-loop-again-2 Inv-loop μ-loop
 loop-again-2 c =
-    let a = c .before .before .before .before .before .before .before .before .before .before .before .before .before .before .before .before .before .args in
+    let at-put-word = c .before .before in
+    let at-word-end = at-put-word .before .before .before in
+    let at-if1 = at-word-end .before in
+    let at-loop-test = at-if1 .before .before in
+    let at-loop = at-loop-test .before in
+    let start = at-loop .before .before .before .before .before .before .before .before in
+    let a = start .args in
     let r = runOf (putOf (a .item .now) (a .name .now) (a .location .now)) (itemsIn (a .list .now)) (a .icon .now) in
-    filling-next (c .before .before .before .before .before .before .before .before .before .loop .inv) (wordRecords r (part (c .before .before .before .before .before .before .before .before .before .loop .i) (c .before .before .before .before .before .word-end .result) (a .exec .now))) _ (records-word r (a .exec .now) (c .before .before .before .before .before .before .before .before .before .loop .i) (c .before .before .before .before .before .before .before .before .loop-test .taken) (c .before .before .before .before .before .before .if1 .left) (c .before .before .before .before .before .word-end .ensures)) (c .before .before .put-word .ensures .ends, c .before .before .put-word .ensures .is)
-
-same-length : tie.Need-same-length Inv-loop μ-loop
-same-length c = search needs
+    filling-next (at-loop .loop .inv) (wordRecords r (part (at-loop .loop .i) (at-word-end .word-end .result) (a .exec .now))) _ (records-word r (a .exec .now) (at-loop .loop .i) (at-loop-test .loop-test .taken) (at-if1 .if1 .left) (at-word-end .word-end .ensures)) (at-put-word .put-word .ensures .ends, at-put-word .put-word .ensures .is)
 
 returns : tie.Need-returns Inv-loop μ-loop
 returns c =
-    let a = c .before .before .before .before .before .before .before .before .before .args in
+    let at-loop = c .before in
+    let start = at-loop .before .before .before .before .before .before .before .before in
+    let a = start .args in
     let r = runOf (putOf (a .item .now) (a .name .now) (a .location .now)) (itemsIn (a .list .now)) (a .icon .now) in
-    filling-end (c .before .loop .inv) (records-done r (a .exec .now) (c .before .loop .i) (c .loop-test .left))
+    filling-end (at-loop .loop .inv) (records-done r (a .exec .now) (at-loop .loop .i) (c .loop-test .left))
 
 pub put-run-spec : {M : Type 1} → statement M
 put-run-spec =
@@ -84,16 +99,16 @@ put-run-spec =
     Inv-loop
     μ-loop
     loop-holds
-    shared-slice-read-if1
-    add-i
-    loop-less
+    (λ c. search needs)
+    (λ c. search needs)
+    (λ c. search needs)
     loop-again
-    word-end-requires
+    (λ c κs. search needs)
     sub-put-word
-    part-put-word-start
+    sub-put-word
     part-put-word-end
     put-word-requires
     loop-less-2
     loop-again-2
-    same-length
+    (λ c. search needs)
     returns)

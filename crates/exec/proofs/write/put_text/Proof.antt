@@ -11,9 +11,12 @@ use Rattle.exec.proofs.write.put_text.Tie as tie
 
 returns : tie.Need-returns
 returns c =
-    let a = c .before .before .before .before .before .before .before .before .before .before .before .before .before .args in
+    let at-put-head = c .before .before in
+    let at-put-pieces = at-put-head .before .before .before .before in
+    let start = at-put-pieces .before .before .before .before .before .before .before in
+    let a = start .args in
     let r : Rec = record { kind = 3; body = piecesBytes (putOf (a .item .now) (a .name .now) (a .location .now)) (piecesOf (a .quoted) (a .s .now)) } in
-    (omega (arith, c .before .before .before .before .before .before .put-pieces .ensures .0), body-then-head (a .out .now) (c .before .before .before .before .before .before .put-pieces .last .0) (c .before .before .put-head .last .0) (a .at) r (c .before .before .before .before .before .before .before .before .before .before .before .before .before .pre .1) (c .before .before .before .before .before .before .put-pieces .ensures .0) (c .before .before .before .before .before .before .put-pieces .ensures .1) (c .before .before .put-head .ensures))
+    (omega (arith, at-put-pieces .put-pieces .ensures .0), body-then-head (a .out .now) (at-put-pieces .put-pieces .last .0) (at-put-head .put-head .last .0) (a .at) r (start .pre .1) (at-put-pieces .put-pieces .ensures .0) (at-put-pieces .put-pieces .ensures .1) (at-put-head .put-head .ensures))
 
 pub put-text-spec : {M : Type 1} → statement M
 put-text-spec =

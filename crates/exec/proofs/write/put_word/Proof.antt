@@ -7,7 +7,7 @@ use Rattle.command.specs.Command.{piecesOf}
 use Rattle.command.proofs.Parting.{quote-ends}
 use mathlib.Core.Bool.{true, false}
 use Rattle.record.specs.Record.{listOf}
-use Rattle.exec.specs.Run.{Run, runOf, piecesBytes}
+use Rattle.exec.specs.Run.{runOf, piecesBytes}
 use Rattle.exec.specs.Step.{putOf, itemsIn}
 use Rattle.exec.proofs.Listing.{length-one}
 use Rattle.exec.proofs.Arguments.{files-records, icon-records, quoted-records, dropped-records, bare-records}
@@ -18,71 +18,116 @@ use Rattle.exec.proofs.write.put_word.Tie as tie
 
 put-items-requires : tie.Need-put-items-requires
 put-items-requires c κs =
-    let a = c .before .before .before .before .before .before .before .before .before .before .before .args in
+    let at-enum-told = c .before in
+    let at-form-of = at-enum-told .before .before in
+    let start = at-form-of .before .before .before .before .before .before .before .before in
+    let a = start .args in
     let r = runOf (putOf (a .item .now) (a .name .now) (a .location .now)) (itemsIn (a .list .now)) (a .icon .now) in
-    let h = rw (files-records r (a .word .now) (sym (c .before .enum-told .given .1) ∙ c .before .before .before .form-of .ensures)) at (c .before .before .before .before .before .before .before .before .before .before .before .pre .3) in
-    (c .before .before .before .before .before .before .before .before .before .before .before .pre .2, search needs)
+    let h = rw (files-records r (a .word .now) (sym (at-enum-told .enum-told .given .1) ∙ at-form-of .form-of .ensures)) at (start .pre .3) in
+    (start .pre .2, search needs)
 
 add-result : tie.Need-add-result
 add-result c =
-    let a = c .before .before .before .before .before .before .before .before .before .before .before .before .before .before .args in
+    let at-put-items = c .before .before in
+    let at-enum-told = at-put-items .before .before in
+    let at-form-of = at-enum-told .before .before in
+    let start = at-form-of .before .before .before .before .before .before .before .before in
+    let a = start .args in
     let r = runOf (putOf (a .item .now) (a .name .now) (a .location .now)) (itemsIn (a .list .now)) (a .icon .now) in
-    omega (arith, rw (files-records r (a .word .now) (sym (c .before .before .before .before .enum-told .given .1) ∙ c .before .before .before .before .before .before .form-of .ensures)) at (c .before .before .before .before .before .before .before .before .before .before .before .before .before .before .pre .3), c .before .before .put-items .ensures .0)
+    omega (arith, rw (files-records r (a .word .now) (sym (at-enum-told .enum-told .given .1) ∙ at-form-of .form-of .ensures)) at (start .pre .3), at-put-items .put-items .ensures .0)
 
 put-icon-requires : tie.Need-put-icon-requires
 put-icon-requires c κs =
-    let a = c .before .before .before .before .before .before .before .before .before .before .before .args in
+    let at-enum-told2 = c .before in
+    let at-form-of = at-enum-told2 .before .before in
+    let start = at-form-of .before .before .before .before .before .before .before .before in
+    let a = start .args in
     let r = runOf (putOf (a .item .now) (a .name .now) (a .location .now)) (itemsIn (a .list .now)) (a .icon .now) in
-    rw (icon-records r (a .word .now) (sym (c .before .enum-told2 .given .1) ∙ c .before .before .before .form-of .ensures)) at (c .before .before .before .before .before .before .before .before .before .before .before .pre .3)
+    rw (icon-records r (a .word .now) (sym (at-enum-told2 .enum-told2 .given .1) ∙ at-form-of .form-of .ensures)) at (start .pre .3)
 
 part-put-text-end : tie.Need-part-put-text-end
-part-put-text-end c = omega (arith, quote-ends (c .before .before .before .before .before .before .before .before .before .before .before .before .args .word .now) (search needs) (c .before .quote-end .ensures))
+part-put-text-end c =
+    let at-quote-end = c .before in
+    let start = at-quote-end .before .before .before .before .before .before .before .before .before .before .before in
+    omega (arith, quote-ends (start .args .word .now) (search needs) (at-quote-end .quote-end .ensures))
 
 put-text-requires : tie.Need-put-text-requires
 put-text-requires c κs =
-    let a = c .before .before .before .before .before .before .before .before .before .before .before .before .before .args in
+    let at-quote-end = c .before .before in
+    let at-enum-told3 = at-quote-end .before in
+    let at-form-of = at-enum-told3 .before .before in
+    let start = at-form-of .before .before .before .before .before .before .before .before in
+    let a = start .args in
     let r = runOf (putOf (a .item .now) (a .name .now) (a .location .now)) (itemsIn (a .list .now)) (a .icon .now) in
-    let q = quote-ends (a .word .now) (search needs) (c .before .before .quote-end .ensures) in
-    let h = rw (quoted-records r (a .word .now) (sym (c .before .before .before .enum-told3 .given .1) ∙ c .before .before .before .before .before .form-of .ensures) (c .before .before .quote-end .ensures), length-one 3 (piecesBytes (r .put) (piecesOf true (part 1 (c .before .before .quote-end .result) (a .word .now))))) at (c .before .before .before .before .before .before .before .before .before .before .before .before .before .pre .3) in
-    (omega (arith, length-part 1 (c .before .before .quote-end .result) (a .word .now) (q .1)), h)
+    let q = quote-ends (a .word .now) (search needs) (at-quote-end .quote-end .ensures) in
+    let h = rw (quoted-records r (a .word .now) (sym (at-enum-told3 .enum-told3 .given .1) ∙ at-form-of .form-of .ensures) (at-quote-end .quote-end .ensures), length-one 3 (piecesBytes (r .put) (piecesOf true (part 1 (at-quote-end .quote-end .result) (a .word .now))))) at (start .pre .3) in
+    (omega (arith, length-part 1 (at-quote-end .quote-end .result) (a .word .now) (q .1)), h)
 
 returns : tie.Need-returns
 returns c =
-    let a = c .before .before .before .before .before .before .before .before .before .before .before .before .args in
+    let at-is-dropped = c .before in
+    let at-enum-told4 = at-is-dropped .before in
+    let at-form-of = at-enum-told4 .before .before in
+    let start = at-form-of .before .before .before .before .before .before .before .before in
+    let a = start .args in
     let r = runOf (putOf (a .item .now) (a .name .now) (a .location .now)) (itemsIn (a .list .now)) (a .icon .now) in
-    rw (dropped-records r (a .word .now) (sym (c .before .before .enum-told4 .given .1) ∙ c .before .before .before .before .form-of .ensures) (sym (c .before .is-dropped .ensures) ∙ c .if1 .taken)) (wrote-none (a .out .now) (a .at))
+    rw (dropped-records r (a .word .now) (sym (at-enum-told4 .enum-told4 .given .1) ∙ at-form-of .form-of .ensures) (sym (at-is-dropped .is-dropped .ensures) ∙ c .if1 .taken)) (wrote-none (a .out .now) (a .at))
 
 put-text-requires-2 : tie.Need-put-text-requires-2
 put-text-requires-2 c κs =
-    let a = c .before .before .before .before .before .before .before .before .before .before .before .before .before .args in
+    let at-if1 = c .before in
+    let at-is-dropped = at-if1 .before in
+    let at-enum-told4 = at-is-dropped .before in
+    let at-form-of = at-enum-told4 .before .before in
+    let start = at-form-of .before .before .before .before .before .before .before .before in
+    let a = start .args in
     let r = runOf (putOf (a .item .now) (a .name .now) (a .location .now)) (itemsIn (a .list .now)) (a .icon .now) in
-    (c .before .before .before .before .before .before .before .before .before .before .before .before .before .pre .1, rw (bare-records r (a .word .now) (sym (c .before .before .before .enum-told4 .given .1) ∙ c .before .before .before .before .before .form-of .ensures) (sym (c .before .before .is-dropped .ensures) ∙ c .before .if1 .left), length-one 3 (piecesBytes (r .put) (piecesOf false (a .word .now)))) at (c .before .before .before .before .before .before .before .before .before .before .before .before .before .pre .3))
+    (start .pre .1, rw (bare-records r (a .word .now) (sym (at-enum-told4 .enum-told4 .given .1) ∙ at-form-of .form-of .ensures) (sym (at-is-dropped .is-dropped .ensures) ∙ at-if1 .if1 .left), length-one 3 (piecesBytes (r .put) (piecesOf false (a .word .now)))) at (start .pre .3))
 
 returns-2 : tie.Need-returns-2
 returns-2 c =
-    let a = c .before .before .before .before .before .before .before .before .before .before .before .before .before .before .args in
+    let at-put-items = c .before .before in
+    let at-enum-told = at-put-items .before .before in
+    let at-form-of = at-enum-told .before .before in
+    let start = at-form-of .before .before .before .before .before .before .before .before in
+    let a = start .args in
     let r = runOf (putOf (a .item .now) (a .name .now) (a .location .now)) (itemsIn (a .list .now)) (a .icon .now) in
-    rw (files-records r (a .word .now) (sym (c .before .before .before .before .enum-told .given .1) ∙ c .before .before .before .before .before .before .form-of .ensures)) (wrote-tail (a .out .now) (a .at) (listOf 3 (itemsIn (a .list .now))) (c .before .before .put-items .ensures))
+    rw (files-records r (a .word .now) (sym (at-enum-told .enum-told .given .1) ∙ at-form-of .form-of .ensures)) (wrote-tail (a .out .now) (a .at) (listOf 3 (itemsIn (a .list .now))) (at-put-items .put-items .ensures))
 
 returns-3 : tie.Need-returns-3
 returns-3 c =
-    let a = c .before .before .before .before .before .before .before .before .before .before .before .before .before .before .args in
+    let at-put-icon = c .before .before in
+    let at-enum-told2 = at-put-icon .before .before in
+    let at-form-of = at-enum-told2 .before .before in
+    let start = at-form-of .before .before .before .before .before .before .before .before in
+    let a = start .args in
     let r = runOf (putOf (a .item .now) (a .name .now) (a .location .now)) (itemsIn (a .list .now)) (a .icon .now) in
-    rw (icon-records r (a .word .now) (sym (c .before .before .before .before .enum-told2 .given .1) ∙ c .before .before .before .before .before .before .form-of .ensures)) (c .before .before .put-icon .ensures)
+    rw (icon-records r (a .word .now) (sym (at-enum-told2 .enum-told2 .given .1) ∙ at-form-of .form-of .ensures)) (at-put-icon .put-icon .ensures)
 
 returns-4 : tie.Need-returns-4
 returns-4 c =
-    let a = c .before .before .before .before .before .before .before .before .before .before .before .before .before .before .before .before .args in
+    let at-put-text = c .before .before in
+    let at-quote-end = at-put-text .before .before .before in
+    let at-enum-told3 = at-quote-end .before in
+    let at-form-of = at-enum-told3 .before .before in
+    let start = at-form-of .before .before .before .before .before .before .before .before in
+    let a = start .args in
     let r = runOf (putOf (a .item .now) (a .name .now) (a .location .now)) (itemsIn (a .list .now)) (a .icon .now) in
-    let b = piecesBytes (r .put) (piecesOf true (part 1 (c .before .before .before .before .before .quote-end .result) (a .word .now))) in
-    rw (quoted-records r (a .word .now) (sym (c .before .before .before .before .before .before .enum-told3 .given .1) ∙ c .before .before .before .before .before .before .before .before .form-of .ensures) (c .before .before .before .before .before .quote-end .ensures), list-one b) (wrote-record b (c .before .before .put-text .ensures))
+    let b = piecesBytes (r .put) (piecesOf true (part 1 (at-quote-end .quote-end .result) (a .word .now))) in
+    rw (quoted-records r (a .word .now) (sym (at-enum-told3 .enum-told3 .given .1) ∙ at-form-of .form-of .ensures) (at-quote-end .quote-end .ensures), list-one b) (wrote-record b (at-put-text .put-text .ensures))
 
 returns-5 : tie.Need-returns-5
 returns-5 c =
-    let a = c .before .before .before .before .before .before .before .before .before .before .before .before .before .before .before .before .args in
+    let at-put-text2 = c .before .before in
+    let at-if1 = at-put-text2 .before .before in
+    let at-is-dropped = at-if1 .before in
+    let at-enum-told4 = at-is-dropped .before in
+    let at-form-of = at-enum-told4 .before .before in
+    let start = at-form-of .before .before .before .before .before .before .before .before in
+    let a = start .args in
     let r = runOf (putOf (a .item .now) (a .name .now) (a .location .now)) (itemsIn (a .list .now)) (a .icon .now) in
     let b = piecesBytes (r .put) (piecesOf false (a .word .now)) in
-    rw (bare-records r (a .word .now) (sym (c .before .before .before .before .before .before .enum-told4 .given .1) ∙ c .before .before .before .before .before .before .before .before .form-of .ensures) (sym (c .before .before .before .before .before .is-dropped .ensures) ∙ c .before .before .before .before .if1 .left), list-one b) (wrote-record b (c .before .before .put-text2 .ensures))
+    rw (bare-records r (a .word .now) (sym (at-enum-told4 .enum-told4 .given .1) ∙ at-form-of .form-of .ensures) (sym (at-is-dropped .is-dropped .ensures) ∙ at-if1 .if1 .left), list-one b) (wrote-record b (at-put-text2 .put-text2 .ensures))
 
 pub put-word-spec : {M : Type 1} → statement M
 put-word-spec =
