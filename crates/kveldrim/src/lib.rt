@@ -10,6 +10,7 @@ ghost use Prim.Native.Nat.{ℕ};
 ghost use Rattle.text.specs.Escape.{readText, writeText};
 ghost use Rattle.text.specs.Element.{readElements};
 ghost use Rattle.text.specs.Output.{answered, told, held};
+ghost use Rattle.exec.specs.Expand.{expand};
 ghost use Rattle.entry.specs.Lookup as lookup;
 ghost use Rattle.entry.specs.Choose.{choose};
 ghost use Rattle.entry.specs.Complete.{complete};
@@ -168,4 +169,28 @@ pub extern "C" fn kveldrim_read_list(
     ensures output { λ _. ⌜ now (out .exit) ≡ held (readElements (now (raw .entry))) (now (out .entry)) ⌝ }
 {
     tell_written(text::read_list(raw, out), place, written)
+}
+
+#[no_mangle]
+pub extern "C" fn kveldrim_expand(
+    file: &[u8],
+    locale: &[u8],
+    location: &[u8],
+    list: &[u8],
+    run: u64,
+    out: &mut [u8],
+    place: &mut u64,
+    written: &mut u64,
+) -> u32
+    ensures told { λ r. ⌜ (r ≡ codeOf (told (expand (now (file .entry)) (now (locale .entry)) (now (location .entry)) (now (list .entry)) run) (now (out .entry))))
+        × (now (place .exit) ≡ placeIn (told (expand (now (file .entry)) (now (locale .entry)) (now (location .entry)) (now (list .entry)) run) (now (out .entry))))
+        × (now (written .exit) ≡ writtenIn (λ n. n) (told (expand (now (file .entry)) (now (locale .entry)) (now (location .entry)) (now (list .entry)) run) (now (out .entry))) (now (written .entry))) ⌝ }
+    ensures output { λ _. ⌜ now (out .exit) ≡ held (expand (now (file .entry)) (now (locale .entry)) (now (location .entry)) (now (list .entry)) run) (now (out .entry)) ⌝ }
+{
+    let n = run as usize;
+    tell_written(
+        exec::expand(file, locale, location, list, n, out),
+        place,
+        written,
+    )
 }

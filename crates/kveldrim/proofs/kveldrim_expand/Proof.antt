@@ -1,0 +1,13 @@
+-- `kveldrim_expand` meets its contract: it is the call. Assumes nothing.
+use borrow.Author.Needs.{needs}
+use Rattle.kveldrim.proofs.kveldrim_expand.Statement.{statement}
+use Rattle.kveldrim.proofs.kveldrim_expand.Tie as tie
+
+pub kveldrim-expand-spec : {M : Type 1} → statement M
+kveldrim-expand-spec =
+    tie.close
+    (tie.spec
+    (λ c κs. search needs)
+    (λ c κs. search needs)
+    (λ c. search needs)
+    (λ c. let r = c .before .before .before .before .before in (rw (← r .expand .ensures .0) (c .tell-written .ensures), r .expand .ensures .1)))
