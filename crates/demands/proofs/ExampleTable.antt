@@ -1,6 +1,6 @@
 -- The examples hold, by computation: a wrong row is shown by its place in the two lists. Assumes nothing.
 use mathlib.Core.Path.{refl}
-use Rattle.base.specs.Lists.{same, span, any, all, first, last}
+use Rattle.base.specs.Lists.{same, span, any, all, first, last, joined}
 use Rattle.text.specs.Class.{keyByte, groupByte, blankByte, valueByte, textByte}
 use Rattle.text.specs.Utf8.{lead, step, textFault}
 use Rattle.text.specs.Escape.{textEscape, escape, textFrom, readText, escaped, escapedAll, rawText, fitText, writeText}
@@ -10,7 +10,7 @@ use Rattle.line.specs.Name.{postfixAt, readName}
 use Rattle.line.specs.Line.{entryAfter, readEntry, readHeader, readLine}
 use Rattle.line.specs.Form.{groupForm, plainForm, keyForm, localeForm}
 use Rattle.record.specs.Number.{littleEndian, numberOf}
-use Rattle.record.specs.Record.{headBytes, recordBytes, cutAfter}
+use Rattle.record.specs.Record.{headBytes, recordBytes, cutAfter, bodiesOf, readList}
 use Rattle.rows.specs.Rows.{rows, lineOf, ended, rowsFrom, readRows, rawValue}
 use Rattle.rows.specs.Title.{title, sameTitle, findRow}
 use Rattle.wellformed.specs.Check.{titleFault, earliest, plainOf, noPlain, titledAs, plainAll, checkAs}
@@ -21,6 +21,11 @@ use Rattle.splice.specs.Edit.{spliced, bufferWith, replaced}
 use Rattle.change.specs.Change.{inserting, setEdit, editOf}
 use Rattle.journal.specs.Journal.{editRecord, readEdits, partedAt, readJournal}
 use Rattle.edit.specs.Calls.{lengthsFit, opened, request}
+use Rattle.command.specs.Words.{quoteLength, wordLength, wordsAfter}
+use Rattle.command.specs.Codes.{reserved, unquotedByte, needsBackslash, quotedByte, standsIn, codePiece, codeIn}
+use Rattle.command.specs.Command.{pieceOf, widthOf, piecesAfter, formOf, argumentOf, pieceFault, piecesFault, quotedFault, wordFault, wordsFault, readCommand}
+use Rattle.exec.specs.Run.{pieceBytes, piecesBytes, leavesNothing, iconArguments, expanded, expandedAll, runs}
+use Rattle.exec.specs.Expand.{noZero, fitItem, fitLocation, askedItems, nameText, iconText, runArguments, groupArguments}
 use Rattle.demands.specs.Examples.{ExamplesHold}
 
 pub examples-hold : ExamplesHold
@@ -31,4 +36,9 @@ unfolding same span any all first last keyByte groupByte blankByte valueByte tex
     stripped plainLocale candidates firstKey chosen valueEnds lookup choose
     littleEndian numberOf headBytes recordBytes cutAfter ended rawValue spliced replaced bufferWith inserting setEdit editOf
     editRecord readEdits partedAt readJournal lengthsFit opened request
+    joined bodiesOf readList quoteLength wordLength wordsAfter
+    reserved unquotedByte needsBackslash quotedByte standsIn codePiece codeIn
+    pieceOf widthOf piecesAfter formOf argumentOf pieceFault piecesFault quotedFault wordFault wordsFault readCommand
+    pieceBytes piecesBytes leavesNothing iconArguments expanded expandedAll runs
+    noZero fitItem fitLocation askedItems nameText iconText runArguments groupArguments
 examples-hold = refl

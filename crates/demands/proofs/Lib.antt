@@ -4,3 +4,4 @@ pub mod EditLaws
 pub mod BookLaws
 pub mod Agreement
 pub mod ExampleTable
+pub mod CommandLaws

@@ -5,12 +5,14 @@ use mathlib.Core.List.{List, [], _∷_, _++_, map}
 use lib.ListN.{length, take, replicate}
 use Rattle.base.specs.Lists.{ascii}
 use Rattle.fault.specs.Table.{numberOf, placeOf}
-use Rattle.fault.specs.Answer.{Answer, given, refused}
+use Rattle.fault.specs.Answer.{Answer, given, refused, _>>=_}
 use Rattle.text.specs.Escape.{readText, writeText}
 use Rattle.text.specs.Element.{elementsOf}
 use Rattle.wellformed.specs.Check.{check}
 use Rattle.entry.specs.Lookup.{Extent, lookup, partOf}
+use Rattle.rows.specs.Rows.{readRows}
 use Rattle.entry.specs.Choose.{choose}
+use Rattle.exec.specs.Expand.{askedItems, groupArguments}
 use Rattle.change.specs.Change.{Set}
 use Rattle.edit.specs.Calls.{request}
 use Rattle.demands.specs.Demand3.{startState}
@@ -72,6 +74,12 @@ setName text =
     shown (λ t. (t .size ∷ []) ∷ t .file ∷ take (t .used) (t .journal) ∷ [])
     (request (startState fileT [] (replicate 26 0)) (Set (ascii "Desktop Entry") (ascii "Name") text))
 
+-- the arguments of run 0 of an Exec with this raw value, without files
+abbrev pub expands : List ℕ → Shown
+expands raw =
+    let f : List ℕ = file (ascii "[Desktop Entry]" ∷ (ascii "Exec=" ++ raw) ∷ []) in
+    shown (λ args. args) (askedItems f [] [] [] >>= λ items. groupArguments (readRows f) (ascii "Desktop Entry") [] [] items 0)
+
 -- the table
 abbrev pub examples : List Example
 examples =
@@ -97,6 +105,11 @@ examples =
           ∷ (0x1a ∷ 0 ∷ 0 ∷ 0 ∷ 1 ∷ 0 ∷ 0x26 ∷ 0 ∷ 0 ∷ 0 ∷ 5 ∷ 0 ∷ 0 ∷ 0 ∷ 3 ∷ 0 ∷ 0 ∷ 0 ∷ 0x4c ∷ 0x65 ∷ 0x73 ∷ 0x65 ∷ 0x6e ∷ 0x4c ∷ 0x65 ∷ 0x73 ∷ [])
           ∷ []);
     }
+    ∷ record { asked = expands (ascii "view \"%f\""); expected = Refuses 16 6 }
+    ∷ record { asked = expands (ascii "view %f %u"); expected = Refuses 16 8 }
+    ∷ record { asked = expands (ascii "view \"a\\\\$b\""); expected = Gives (ascii "view" ∷ ascii "a$b" ∷ []) }
+    ∷ record { asked = expands (ascii "view --x=%f"); expected = Gives (ascii "view" ∷ ascii "--x=" ∷ []) }
+    ∷ record { asked = expands (ascii "view %f"); expected = Gives (ascii "view" ∷ []) }
     ∷ []
 
 -- the claim: what is asked is what is expected, row by row

@@ -4,3 +4,4 @@ pub mod Edits
 pub mod Book
 pub mod Demand3
 pub mod Examples
+pub mod Commands
