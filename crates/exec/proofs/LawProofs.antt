@@ -18,7 +18,7 @@ use Rattle.exec.proofs.Spending.{bytes-cons, bytes-none}
 
 -- ---- where items and texts stand
 
-expanded-append : (r : Run) (front back : List Argument) → expandedAll r (front ++ back) ≡ expandedAll r front ++ expandedAll r back
+pub expanded-append : (r : Run) (front back : List Argument) → expandedAll r (front ++ back) ≡ expandedAll r front ++ expandedAll r back
 unfolding expandedAll
 expanded-append r [] back = refl
 expanded-append r (a ∷ front) back = rw (append-assoc, ← expanded-append r front back)

@@ -8,3 +8,4 @@ pub mod Values
 pub mod Asking
 pub mod Expanding
 pub mod LawProofs
+pub mod Runs
