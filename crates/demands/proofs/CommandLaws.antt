@@ -1,6 +1,7 @@
 -- Pupils' files reach the program as they are. Assumes nothing.
 use Rattle.command.proofs.Takers.{one-takes-files}
 use Rattle.exec.proofs.LawProofs.{items-are-whole, put-in-as-it-is, item-stands-inside, arguments-are-counted, runs-are-numbered}
+use Rattle.exec.proofs.Runs.{items-stand-in-their-runs}
 use Rattle.demands.specs.Commands.{FilesReachTheProgram}
 
 pub files-reach-the-program : FilesReachTheProgram
@@ -11,4 +12,5 @@ files-reach-the-program = record {
   put-in-as-it-is = put-in-as-it-is;
   arguments-are-counted = arguments-are-counted;
   runs-are-numbered = runs-are-numbered;
+  items-stand-in-their-runs = items-stand-in-their-runs;
 }

@@ -1,7 +1,7 @@
 -- Demand 2's sentence about pupils' files: each file name reaches the program as one argument, or inside the one that holds its code, with its
 -- own bytes. Assumes nothing.
 use Rattle.command.specs.Laws.{OneTakesFiles}
-use Rattle.exec.specs.Laws.{ItemsAreWhole, PutInAsItIs, ItemStandsInside, ArgumentsAreCounted, RunsAreNumbered}
+use Rattle.exec.specs.Laws.{ItemsAreWhole, PutInAsItIs, ItemStandsInside, ArgumentsAreCounted, RunsAreNumbered, ItemsStandInTheirRuns}
 
 -- what holds of every expansion
 pub record FilesReachTheProgram : Type 0 where
@@ -17,3 +17,5 @@ pub record FilesReachTheProgram : Type 0 where
   pub arguments-are-counted : ArgumentsAreCounted
   -- the runs are numbered from 0: one for each item with f or u, else one
   pub runs-are-numbered : RunsAreNumbered
+  -- every accepted run holds its items: all of them, each one argument, or the one of its number inside one argument
+  pub items-stand-in-their-runs : ItemsStandInTheirRuns
