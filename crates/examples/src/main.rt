@@ -3,6 +3,8 @@ mod report; // report.rt: the words of the report
 mod files; // files.rt: the check and completeness
 mod values; // values.rt: lookup and the choice of language
 mod texts; // texts.rt: text and value lists
+mod edits; // edits.rt: set, with room in the journal and without
+mod commands; // commands.rt: the expansion of Exec
 
 fn main() {
     // File T of 01.
@@ -18,4 +20,7 @@ fn main() {
     texts::texts_read();
     texts::texts_written();
     texts::lists_read();
+    edits::sets(t);
+    commands::expansions(t);
+    commands::refused_expansions();
 }

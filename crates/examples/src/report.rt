@@ -1,4 +1,5 @@
 // The words of the report, on standard output.
+use edit::Edited;
 use entry::Ends;
 use fault::Fault;
 use libc::STDOUT_FILENO;
@@ -118,5 +119,31 @@ pub fn tell_records(w: Written, out: &[u8]) {
     say_written(w);
     say(b",");
     spaced_bytes(out);
+    say(b"\n");
+}
+
+fn say_numbers(size: usize, used: usize, standing: usize) {
+    say(b": ");
+    say_number(size);
+    say(b" bytes, used ");
+    say_number(used);
+    say(b", standing ");
+    say_number(standing);
+}
+
+// The answer of a call that edits, and both buffers.
+pub fn tell_edited(e: Edited, file: &[u8], journal: &[u8]) {
+    match e {
+        Edited::Done {
+            size,
+            used,
+            standing,
+        } => say_numbers(size, used, standing),
+        Edited::Refused(f) => say_refused(f),
+    }
+    say(b", ");
+    quote(file);
+    say(b",");
+    spaced_bytes(journal);
     say(b"\n");
 }

@@ -1,7 +1,9 @@
 //! The report of the program `crates/examples`, made from the reference's answers. The questions are written here again.
 
 use crate::common::{with_header, T};
-use reference::{check, choose, complete, lookup, read_list, read_text, write_text, Refusal};
+use reference::{
+    check, choose, complete, expand, lookup, read_list, read_text, set, write_text, Refusal, State,
+};
 
 /// A call with an output.
 type Output = fn(&[u8], &mut [u8]) -> Result<usize, Refusal>;
@@ -100,6 +102,64 @@ fn reads_list(raw: &[u8], room: usize) -> String {
     writes("read_list", read_list, digits, raw, room)
 }
 
+/// Name of T set to `Les`, with a journal of so many bytes; both buffers hold dots first.
+fn sets_name(room: usize) -> String {
+    let mut file = T.to_vec();
+    file.resize(72, b'.');
+    let mut state = State {
+        file,
+        file_len: T.len() as u64,
+        journal: vec![b'.'; room],
+        used: 0,
+        standing: 0,
+    };
+    let answer = set(&mut state, b"Desktop Entry", b"Name", b"Les");
+    let numbers = format!(
+        "{} bytes, used {}, standing {}",
+        state.file_len, state.used, state.standing
+    );
+    let answer = told(answer, |()| numbers.clone());
+    let (file, journal) = (quote(&state.file), digits(&state.journal));
+    format!(
+        r#"set "Name" of T to "Les" with a journal of {room} bytes: {answer}, {file}, {journal}"#
+    )
+}
+
+/// A run of a file's Exec, with a list of files, into so many bytes.
+fn expands(file: &[u8], list: &[u8], run: u64, room: usize) -> String {
+    let mut out = vec![b'.'; room];
+    let answer = expand(file, b"", b"", list, run, &mut out);
+    let answer = told(answer, |n| format!("{n} bytes"));
+    let (file, list) = (quote(file), quote(list));
+    let out = digits(&out);
+    format!("expand run {run} of {file} with the list {list} into {room} bytes: {answer}, {out}")
+}
+
+fn edits() -> Vec<String> {
+    [27, 26, 25].map(sets_name).into()
+}
+
+fn commands() -> Vec<String> {
+    let one = b"\x07\0\0\0\x02\0a";
+    let spaced = b"\x09\0\0\0\x02\0a b\x08\0\0\0\x02\0%f";
+    let item = with_header(b"Exec=view -- %f\n");
+    let refused = |entry: &[u8]| expands(&with_header(entry), b"", 0, 10);
+    vec![
+        expands(T, one, 0, 17),
+        expands(T, one, 0, 16),
+        expands(T, one, 1, 17),
+        expands(T, b"", 0, 10),
+        expands(T, b"\x07", 0, 10),
+        expands(&item, spaced, 0, 40),
+        expands(&item, spaced, 1, 40),
+        expands(&item, spaced, 2, 40),
+        refused(b"Exec=view \"%f\"\n"),
+        refused(b"Exec=view %f %u\n"),
+        refused(b"Exec=view \"a$b\n"),
+        refused(b"Name=X\n"),
+    ]
+}
+
 fn files() -> Vec<String> {
     vec![
         checks(b""),
@@ -185,7 +245,7 @@ fn texts() -> Vec<String> {
 fn the_program_reports_the_same() {
     let path = concat!(env!("CARGO_MANIFEST_DIR"), "/../../crates/examples/stdout");
     let report = std::fs::read_to_string(path).unwrap();
-    let lines = [files(), values(), texts()].concat();
+    let lines = [files(), values(), texts(), edits(), commands()].concat();
     for (line, expected) in report.lines().zip(&lines) {
         assert_eq!(line, expected);
     }
