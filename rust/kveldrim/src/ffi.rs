@@ -3,6 +3,8 @@
 //! Every call: the result is the refusal's number, 0 if accepted; `place` is always written, each other number only if
 //! accepted; no lent byte changes on a refusal. An empty slice may have any pointer.
 
+pub use crate::expand::kveldrim_expand;
+
 /// A call that asks of a file: the file, its length, place.
 pub type FileCall = unsafe extern "C" fn(*const u8, usize, *mut u64) -> u32;
 

@@ -11,11 +11,13 @@
 //! assert_eq!((refusal.number, refusal.place), (2, 2));
 //! ```
 
+mod expand;
 pub mod ffi;
 mod refusal;
 
 use std::ops::Range;
 
+pub use expand::{expand, expand_args, list_of, runs, Arguments};
 pub use refusal::{Place, Refusal};
 
 /// The most bytes that a file may have.
