@@ -4,6 +4,7 @@ use std::collections::BTreeMap;
 
 use kveldrim::ffi;
 
+use crate::expand::Question;
 use crate::lent::{Lent, Numbers};
 use crate::random::Random;
 
@@ -17,6 +18,8 @@ pub enum Case {
     File { file: Vec<u8>, asks: Vec<Ask> },
     /// Bytes to read as text and as a list, and to write as text.
     Text(Vec<u8>),
+    /// An expansion of a file's Exec.
+    Expand(Box<Question>),
 }
 
 /// The arguments of a lookup (group, key) and of a choice (group, plain key, locale).
@@ -37,6 +40,7 @@ impl Case {
         match self {
             Case::File { file, .. } => file,
             Case::Text(text) => text,
+            Case::Expand(question) => &question.file,
         }
     }
 
@@ -48,6 +52,7 @@ impl Case {
                 asks: asks.clone(),
             },
             Case::Text(_) => Case::Text(bytes),
+            Case::Expand(question) => Case::Expand(Box::new(question.about(bytes))),
         }
     }
 
@@ -68,6 +73,7 @@ impl Case {
                 asker.write_text(text)?;
                 asker.read_list(text)
             }
+            Case::Expand(question) => question.compare(asker),
         }
     }
 }
