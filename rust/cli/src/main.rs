@@ -1,8 +1,10 @@
-//! The command `kveldrim`: checks .desktop files and reads their values, with the proved core behind it.
+//! The command `kveldrim`: checks .desktop files, reads their values and expands their commands, with the proved core behind
+//! it.
 
 #![forbid(unsafe_code)]
 
 mod arguments;
+mod expand;
 mod report;
 
 use std::env;
@@ -18,7 +20,7 @@ use kveldrim::Refusal;
 use report::Trouble;
 
 const HELP: &str = "\
-Checks .desktop files and reads their values.
+Checks .desktop files, reads their values and expands their commands.
 
   kveldrim check FILE..                 is each file well formed?
   kveldrim complete FILE..              has it also what an entry needs (Type, Name, Exec or URL ..)?
@@ -29,6 +31,14 @@ Checks .desktop files and reads their values.
                     (without: just KEY, which may have a locale of its own, as Name[de])
       --raw         the value as it stands in the file
   kveldrim list FILE KEY [--group G]    writes the elements of a list, each on a line of its own
+  kveldrim expand FILE FILES..          writes the arguments of FILE's command for these files; starts nothing
+      --locale L    Name and Icon by the locale L, as for get
+      --run N       those of run N, from 0 (without: run 0); with %f or %u each file has a run of its own
+      --all         those of all runs, with an empty line between runs
+      --runs        just how many runs there are
+      --location P  where FILE is, for %k (without: FILE)
+      --null        a zero byte after each argument, and one more between runs
+                    (without: each on a line of its own, quoted for a shell where needed)
   kveldrim --help, kveldrim --version
 
 A word -- ends the options. Values are written as the bytes they are, with a line feed after each. Faults are told as
@@ -38,6 +48,9 @@ Exit status: 0 all is well; 1 a file or a question was refused; 2 bad usage, or 
 ";
 
 fn main() -> ExitCode {
+    if env::args_os().nth(1).is_some_and(|word| word == "expand") {
+        return expand::expand(env::args_os().skip(2));
+    }
     let command = match arguments::read(env::args_os().skip(1)) {
         Ok(command) => command,
         Err(fault) => return Trouble::usage(&fault).tell(),

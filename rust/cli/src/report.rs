@@ -96,7 +96,7 @@ const FORMS: &[u8] = b"the group, key or locale asked for is not well written \
     (a key has letters, digits and -, then perhaps [locale], but not beside --locale; \
     a locale is as de, de_AT, de_AT.UTF-8 or de_AT.UTF-8@euro)";
 
-fn refused(file: &OsStr, place: &str, words: &[u8]) -> Trouble {
+pub fn refused(file: &OsStr, place: &str, words: &[u8]) -> Trouble {
     Trouble {
         message: [file.as_bytes(), b":", place.as_bytes(), b" ", words].concat(),
         status: REFUSED,
@@ -115,7 +115,7 @@ fn missing_key(bytes: &[u8]) -> &'static str {
 }
 
 /// The line of an offset in the file and the byte in that line, both from 1.
-fn line_and_byte(bytes: &[u8], offset: usize) -> (usize, usize) {
+pub fn line_and_byte(bytes: &[u8], offset: usize) -> (usize, usize) {
     let before = &bytes[..offset];
     let feeds = before.iter().filter(|byte| **byte == b'\n').count();
     let start = before.iter().rposition(|byte| *byte == b'\n');
