@@ -16,7 +16,7 @@
  * - Slices are lent for the call only. An output overlaps no other slice, and the number pointers are not NULL, point to
  *   different numbers and into no slice. Inputs may overlap each other.
  * - No call allocates memory, keeps anything or waits; calls may run in several threads at once. 64 KiB of stack are
- *   enough for each.
+ *   enough for each, but kveldrim_expand takes up to 160 KiB.
  *
  * Example
  *
@@ -48,11 +48,18 @@
  *      9  KVELDRIM_ESCAPE       unknown or unfinished escape                                       offset of its backslash
  *                                                                                                  in the raw value
  *     10  KVELDRIM_UNFIT        text that no value can hold                                        0
+ *                               a list item or location that no argument can hold                  0
  *     11  KVELDRIM_NO_ROOM      the output is too small                                            0
+ *     14  KVELDRIM_DAMAGED      a list is over 65,536 bytes or not filled by its records           0
+ *     15  KVELDRIM_BAD_EXEC     Exec is badly written                                              offset in the unescaped
+ *                                                                                                  value
+ *     16  KVELDRIM_BAD_CODE     a wrong field code in Exec                                         offset of its % in the
+ *                                                                                                  unescaped value
  *     18  KVELDRIM_INCOMPLETE   a key that is needed is missing                                    0
  *                               Type or a yes-or-no key has a value that it cannot have            line
  *
- * Where several apply: 1; the earliest line with 2 to 5 (2 first on that line); 3 for no header; 6; 7; 10; 8; 9; 18; 11.
+ * Where several apply: 1; the earliest line with 2 to 5 (2 first on that line); 3 for no header; 6; 14; 7; 10; 8; 9; 15
+ * and 16 by lowest place; 18; 11.
  *
  * Forms
  *
@@ -73,6 +80,10 @@ extern "C" {
 /* The most bytes that a file may have. */
 #define KVELDRIM_FILE_BOUND 32768
 
+/* The most bytes that a list of files, and that a location, may have. */
+#define KVELDRIM_LIST_BOUND 65536
+#define KVELDRIM_LOCATION_BOUND 4096
+
 /* The refusals; the table above says when each is given. */
 #define KVELDRIM_TOO_LONG 1
 #define KVELDRIM_BAD_LINE 2
@@ -85,6 +96,9 @@ extern "C" {
 #define KVELDRIM_ESCAPE 9
 #define KVELDRIM_UNFIT 10
 #define KVELDRIM_NO_ROOM 11
+#define KVELDRIM_DAMAGED 14
+#define KVELDRIM_BAD_EXEC 15
+#define KVELDRIM_BAD_CODE 16
 #define KVELDRIM_INCOMPLETE 18
 
 /*
@@ -183,6 +197,39 @@ uint32_t kveldrim_write_text(const uint8_t *text, size_t text_len,
 uint32_t kveldrim_read_list(const uint8_t *raw, size_t raw_len,
                             uint8_t *out, size_t out_len,
                             uint64_t *place, uint64_t *written);
+
+/*
+ * Expands Exec of the group Desktop Entry into the arguments of one run. Nothing is started. The first argument is the
+ * program; hand the arguments to execvp or posix_spawnp one by one, never to a shell.
+ *
+ * %f and %u stand for one file of the list: a list of n files has the runs 0 to n - 1, and an empty one has run 0, without a
+ * file. Without %f and %u there is only run 0. %F and %U become one argument for each file. %i becomes --icon and the
+ * Icon, nothing if there is none; %c is the Name, %k the location, %% a percent sign; %d %D %n %N %v and %m vanish. What is
+ * put in stays as its bytes are: it is neither split at spaces nor searched for codes.
+ *
+ * The list is records, one after another: the length of the whole record (4 bytes, little-endian), the kind 2 (2 bytes,
+ * little-endian), the file's name. The arguments are written as such records too, with the kind 3. With the list
+ * 07 00 00 00 02 00 61 (one file, a), Exec=view %F gives
+ * 0A 00 00 00 03 00 76 69 65 77 07 00 00 00 03 00 61 (view and a).
+ *
+ *     file, file_len           the whole file
+ *     locale, locale_len       the locale for Name and Icon, as de_DE.UTF-8, or empty
+ *     location, location_len   where the file is, for %k; at most 4,096 bytes, none of them zero, else 10
+ *     list, list_len           the files to open; at most 65,536 bytes, else 14; no name is empty or has a zero byte, else 10
+ *     run                      the run's number, else 8
+ *     out, out_len             the output
+ *     written                  how many bytes were written to the output
+ *
+ * Refusals, in this order: 1 to 6, 14, 7, 10, 8 (no Exec), 9 (in Exec), 15 and 16 by lowest place, 8 (no such run), 8 or 9
+ * of Name if %c stands in Exec, 9 of Icon if %i does, 11.
+ */
+uint32_t kveldrim_expand(const uint8_t *file, size_t file_len,
+                         const uint8_t *locale, size_t locale_len,
+                         const uint8_t *location, size_t location_len,
+                         const uint8_t *list, size_t list_len,
+                         uint64_t run,
+                         uint8_t *out, size_t out_len,
+                         uint64_t *place, uint64_t *written);
 
 #ifdef __cplusplus
 }
