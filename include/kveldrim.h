@@ -13,8 +13,9 @@
  * - *place is always written: 0 if accepted, else the refusal's place.
  * - Every other number is written only if the call is accepted.
  * - A refusal changes no byte that was lent. An accepted call writes to the start of its output; the rest keeps its bytes.
- * - Slices are lent for the call only. An output overlaps no other slice, and the number pointers are not NULL, point to
- *   different numbers and into no slice. Inputs may overlap each other.
+ *   What the calls that edit write is said below, under Edits.
+ * - Slices are lent for the call only. An output or a buffer overlaps no other slice, and the number pointers are not NULL,
+ *   point to different numbers and into no slice. Inputs may overlap each other.
  * - No call allocates memory, keeps anything or waits; calls may run in several threads at once. 64 KiB of stack are
  *   enough for each, but kveldrim_expand takes up to 160 KiB.
  *
@@ -43,23 +44,60 @@
  *      4  KVELDRIM_GROUP_TWICE  a group's name stands further up                                   the later line
  *      5  KVELDRIM_KEY_TWICE    a key with the same postfix stands further up in its group         the later line
  *      6  KVELDRIM_NO_PLAIN     a key has a postfix, but does not stand without one in its group   the earliest line
+ *                               the same of a key about to be set                                  0
  *      7  KVELDRIM_FORM         a group, key or locale that was asked for is not of its form       0
  *      8  KVELDRIM_MISSING      no such group or key                                               0
  *      9  KVELDRIM_ESCAPE       unknown or unfinished escape                                       offset of its backslash
  *                                                                                                  in the raw value
  *     10  KVELDRIM_UNFIT        text that no value can hold                                        0
  *                               a list item or location that no argument can hold                  0
- *     11  KVELDRIM_NO_ROOM      the output is too small                                            0
- *     14  KVELDRIM_DAMAGED      a list is over 65,536 bytes or not filled by its records           0
+ *     11  KVELDRIM_NO_ROOM      the output is too small; the edited file is over its room or
+ *                               32,768 bytes                                                       0
+ *     12  KVELDRIM_NOTHING      nothing to undo or redo                                            0
+ *     13  KVELDRIM_JOURNAL_FULL the bytes standing and the new record are over the journal's room
+ *                               or 65,536 bytes                                                    0
+ *     14  KVELDRIM_DAMAGED      a length is over its room, used over 65,536 or standing over used;
+ *                               the journal is damaged, or does not fit the file; a list is over
+ *                               65,536 bytes or not filled by its records                          0
  *     15  KVELDRIM_BAD_EXEC     Exec is badly written                                              offset in the unescaped
  *                                                                                                  value
  *     16  KVELDRIM_BAD_CODE     a wrong field code in Exec                                         offset of its % in the
  *                                                                                                  unescaped value
+ *     17  KVELDRIM_POSTFIXED    a plain key is to be removed whose postfixed keys remain           0
  *     18  KVELDRIM_INCOMPLETE   a key that is needed is missing                                    0
  *                               Type or a yes-or-no key has a value that it cannot have            line
  *
- * Where several apply: 1; the earliest line with 2 to 5 (2 first on that line); 3 for no header; 6; 14; 7; 10; 8; 9; 15
- * and 16 by lowest place; 18; 11.
+ * Where several apply: 14 for lengths; 1; the earliest line with 2 to 5 (2 first on that line); 3 for no header; 6; 14 for
+ * the journal or the list; 7; 10; 12; 8; 6 for a set; 17; 9; 15 and 16 by lowest place; 18; 11; 13. An undo or a redo asks
+ * 14, 11 and 14 again after 12.
+ *
+ * Edits
+ *
+ * kveldrim_set, kveldrim_remove, kveldrim_undo and kveldrim_redo edit a file in the caller's memory and keep a journal of
+ * it beside. Both are buffers with room, and three numbers go in and come out; they change only if the call is accepted:
+ *
+ *     file, file_room         the buffer of the file; 32,768 bytes are always enough
+ *     *file_len               how many of its bytes are the file
+ *     journal, journal_room   the buffer of the journal; more than 65,536 bytes are never used
+ *     *used                   how many of its bytes are used; 0 is the empty journal
+ *     *standing               how many of the used bytes stand; the records behind them are undone and wait for a redo
+ *
+ * For a new journal, *used and *standing are 0, and what its buffer holds is no matter. To go on another day, keep the
+ * file's bytes, the journal's used bytes and *standing together: an undo is refused (14) if the file does not hold what the
+ * record says, but a file that was changed elsewhere in between is not noticed.
+ *
+ * A record is 18 bytes and the edit's old and new bytes, all numbers little-endian: the length of the whole record (4
+ * bytes), the kind 1 (2 bytes), the place in the file, the old length and the new length (4 bytes each), the old bytes, the
+ * new bytes.
+ *
+ *  - A set of a key that is there replaces the bytes of its value: the old value and the new one are recorded.
+ *  - A set of a key that is not there puts in Key=value and LF behind the group's last entry, or behind its header if it has
+ *    none; LF and Key=value if there is no LF to go behind. A set never makes a group (8).
+ *  - A remove takes out the line with its LF; a last line without LF goes with the LF before it.
+ *  - Both write their record where the standing ones end and make it the last: *used and *standing are its end. So an edit
+ *    after an undo forgets what waited. Bytes of the journal behind the new *used stay as they were.
+ *  - An undo and a redo change no byte of the journal, and of the numbers only *file_len and *standing.
+ *  - A file that shrinks has zeros up to its old length. Bytes behind both lengths stay as they were.
  *
  * Forms
  *
@@ -84,6 +122,12 @@ extern "C" {
 #define KVELDRIM_LIST_BOUND 65536
 #define KVELDRIM_LOCATION_BOUND 4096
 
+/* The most bytes of a journal that may be used. */
+#define KVELDRIM_JOURNAL_BOUND 65536
+
+/* The bytes of a journal's record before its old and new bytes. */
+#define KVELDRIM_RECORD_HEAD 18
+
 /* The refusals; the table above says when each is given. */
 #define KVELDRIM_TOO_LONG 1
 #define KVELDRIM_BAD_LINE 2
@@ -96,9 +140,12 @@ extern "C" {
 #define KVELDRIM_ESCAPE 9
 #define KVELDRIM_UNFIT 10
 #define KVELDRIM_NO_ROOM 11
+#define KVELDRIM_NOTHING 12
+#define KVELDRIM_JOURNAL_FULL 13
 #define KVELDRIM_DAMAGED 14
 #define KVELDRIM_BAD_EXEC 15
 #define KVELDRIM_BAD_CODE 16
+#define KVELDRIM_POSTFIXED 17
 #define KVELDRIM_INCOMPLETE 18
 
 /*
@@ -197,6 +244,62 @@ uint32_t kveldrim_write_text(const uint8_t *text, size_t text_len,
 uint32_t kveldrim_read_list(const uint8_t *raw, size_t raw_len,
                             uint8_t *out, size_t out_len,
                             uint64_t *place, uint64_t *written);
+
+/*
+ * Sets a key to a text, which is written as kveldrim_write_text writes it. Setting the value that is there already is an
+ * edit like another.
+ *
+ *     file .. standing   the two buffers and their numbers, as said above under Edits
+ *     group, group_len   the group's name, without brackets
+ *     key, key_len       the key, with its postfix if it has one: Name or Name[de]
+ *     text, text_len     the text, not escaped
+ *
+ * Refusals: 14, 1 to 6, 14, 7, 10, 8, 6, 11, 13.
+ */
+uint32_t kveldrim_set(uint8_t *file, size_t file_room, uint64_t *file_len,
+                      uint8_t *journal, size_t journal_room, uint64_t *used, uint64_t *standing,
+                      const uint8_t *group, size_t group_len,
+                      const uint8_t *key, size_t key_len,
+                      const uint8_t *text, size_t text_len,
+                      uint64_t *place);
+
+/*
+ * Removes a key with its line.
+ *
+ *     file .. standing   the two buffers and their numbers, as said above under Edits
+ *     group, group_len   the group's name, without brackets
+ *     key, key_len       the key, with its postfix if it has one
+ *
+ * Refusals: 14, 1 to 6, 14, 7, 8, 17, 13.
+ */
+uint32_t kveldrim_remove(uint8_t *file, size_t file_room, uint64_t *file_len,
+                         uint8_t *journal, size_t journal_room, uint64_t *used, uint64_t *standing,
+                         const uint8_t *group, size_t group_len,
+                         const uint8_t *key, size_t key_len,
+                         uint64_t *place);
+
+/*
+ * Takes back the latest edit that stands: the record that ends at *standing. Its new bytes become its old ones again.
+ *
+ *     file .. standing   the two buffers and their numbers, as said above under Edits
+ *
+ * Refusals: 14, 1 to 6, 14, 12; then 14 if the new bytes do not stand at their place, 11, and 14 if the result would not be
+ * well formed. The last three come only with a journal that these calls did not write for this file and this room.
+ */
+uint32_t kveldrim_undo(uint8_t *file, size_t file_room, uint64_t *file_len,
+                       uint8_t *journal, size_t journal_room, uint64_t *used, uint64_t *standing,
+                       uint64_t *place);
+
+/*
+ * Makes the next edit that waits once more: the record that starts at *standing. Its old bytes become its new ones again.
+ *
+ *     file .. standing   the two buffers and their numbers, as said above under Edits
+ *
+ * Refusals: as kveldrim_undo, with the old bytes at their place.
+ */
+uint32_t kveldrim_redo(uint8_t *file, size_t file_room, uint64_t *file_len,
+                       uint8_t *journal, size_t journal_room, uint64_t *used, uint64_t *standing,
+                       uint64_t *place);
 
 /*
  * Expands Exec of the group Desktop Entry into the arguments of one run. Nothing is started. The first argument is the

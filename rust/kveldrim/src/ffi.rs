@@ -61,3 +61,29 @@ macro_rules! output_calls {
 }
 
 output_calls! { kveldrim_read_text kveldrim_write_text kveldrim_read_list }
+
+/// Declares calls that edit: the two buffers with their numbers, which go in and come out, the arguments, the place.
+macro_rules! edit_calls {
+    ($($name:ident($($argument:ident: $type:ty),*))*) => {
+        extern "C" {
+            $(pub fn $name(
+                file: *mut u8,
+                file_room: usize,
+                file_len: *mut u64,
+                journal: *mut u8,
+                journal_room: usize,
+                used: *mut u64,
+                standing: *mut u64,
+                $($argument: $type,)*
+                place: *mut u64,
+            ) -> u32;)*
+        }
+    };
+}
+
+edit_calls! {
+    kveldrim_set(group: *const u8, group_len: usize, key: *const u8, key_len: usize, text: *const u8, text_len: usize)
+    kveldrim_remove(group: *const u8, group_len: usize, key: *const u8, key_len: usize)
+    kveldrim_undo()
+    kveldrim_redo()
+}

@@ -1,7 +1,7 @@
 //! Safe bindings over Kveldrim, the proved core for `.desktop` files (Desktop Entry Specification 1.5).
 //!
 //! A file is a slice of bytes; nothing is kept between calls. Every call gives its answer or a [`Refusal`], and a
-//! refusal changes no byte of an output.
+//! refusal changes no byte of an output. [`Document`] edits a file with undo.
 //!
 //! ```
 //! let file = b"[Desktop Entry]\nType=Application\nName=Read\nName[fr]=Lire\nExec=view %F\n";
@@ -11,12 +11,14 @@
 //! assert_eq!((refusal.number, refusal.place), (2, 2));
 //! ```
 
+mod edit;
 mod expand;
 pub mod ffi;
 mod refusal;
 
 use std::ops::Range;
 
+pub use edit::{Buffers, Document, Edit, Edits, Numbers, JOURNAL_BOUND};
 pub use expand::{expand, expand_args, list_of, runs, Arguments};
 pub use refusal::{Place, Refusal};
 

@@ -2,7 +2,7 @@
 
 use std::process::Command;
 
-use kveldrim::{Elements, Place, Refusal, DESKTOP_ENTRY};
+use kveldrim::{Buffers, Document, Edit, Edits, Elements, Numbers, Place, Refusal, DESKTOP_ENTRY};
 
 const T: &[u8] = b"[Desktop Entry]\nType=Application\nName=Lesen\nName[fr]=Lire\nExec=view %F\n";
 
@@ -84,6 +84,79 @@ fn lists() {
     assert_eq!(kveldrim::read_list_vec(b";\\"), refused(9, 1));
     assert_eq!(Elements::new(b"\x07\0\0\0\x02\0").count(), 0);
     assert_eq!(Elements::new(b"\x06\0\0\0\x03\0").count(), 0);
+}
+
+/// The record of file T with Name set to `Les`.
+const LES: &[u8] = b"\x1A\0\0\0\x01\0\x26\0\0\0\x05\0\0\0\x03\0\0\0LesenLes";
+
+#[test]
+fn edits_in_lent_buffers() {
+    let mut file = [T, b"...."].concat();
+    let mut journal = [b'.'; 30];
+    let mut numbers = Numbers {
+        file_len: 71,
+        used: 0,
+        standing: 0,
+    };
+    let mut buffers = Buffers {
+        file: &mut file,
+        journal: &mut journal,
+        numbers: &mut numbers,
+    };
+    assert_eq!(buffers.set(DESKTOP_ENTRY, b"Name", b"Les"), Ok(()));
+    assert_eq!(buffers.set(DESKTOP_ENTRY, b"Name", b"L"), refused(13, 0));
+    assert_eq!(buffers.set(DESKTOP_ENTRY, b"Icon", b"x"), refused(11, 0));
+    assert_eq!(buffers.remove(DESKTOP_ENTRY, b"Name"), refused(17, 0));
+    assert_eq!(
+        (&buffers.journal[..26], &buffers.journal[26..]),
+        (LES, &b"...."[..])
+    );
+    assert_eq!(buffers.file[69..], *b"\0\0....");
+    let Numbers {
+        file_len,
+        used,
+        standing,
+    } = *buffers.numbers;
+    assert_eq!([file_len, used, standing], [69, 26, 26]);
+    assert_eq!(buffers.undo(), Ok(()));
+    assert_eq!(buffers.undo(), refused(12, 0));
+    assert_eq!(*buffers.file, [T, b"...."].concat());
+    buffers.numbers.used = 31;
+    assert_eq!(buffers.redo(), refused(14, 0));
+}
+
+#[test]
+fn edits_of_a_document() {
+    let mut document = Document::new(T);
+    assert_eq!(document.set(DESKTOP_ENTRY, b"Name", b"Les"), Ok(()));
+    assert_eq!((document.journal(), document.standing()), (LES, 26));
+    assert_eq!(document.remove(DESKTOP_ENTRY, b"Exec"), Ok(()));
+    assert_eq!(document.undo(), Ok(()));
+    let edits: Vec<Edit> = Edits::new(document.journal()).collect();
+    let name = Edit {
+        place: 38,
+        old: b"Lesen",
+        new: b"Les",
+    };
+    let exec = Edit {
+        place: 56,
+        old: b"Exec=view %F\n",
+        new: b"",
+    };
+    assert_eq!(edits, [name, exec]);
+    // Kept and taken up another day.
+    let (file, journal) = (document.file().to_vec(), document.journal().to_vec());
+    let mut later = Document::with_journal(&file, &journal, document.standing());
+    assert_eq!(later.redo(), Ok(()));
+    assert_eq!((later.undo(), later.undo()), (Ok(()), Ok(())));
+    assert_eq!((later.file(), later.standing()), (T, 0));
+    let mut long = Document::new(&[b'\n'; kveldrim::FILE_BOUND + 1]);
+    assert_eq!(long.undo(), refused(1, 0));
+    let mut foreign = Document::with_journal(T, &[0; kveldrim::JOURNAL_BOUND + 1], 0);
+    assert_eq!(foreign.undo(), refused(14, 0));
+    for cut in 0..LES.len() {
+        assert_eq!(Edits::new(&LES[..cut]).count(), 0);
+    }
 }
 
 #[test]
