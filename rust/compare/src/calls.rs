@@ -5,6 +5,7 @@ use std::collections::BTreeMap;
 use kveldrim::ffi;
 
 use crate::expand::Question;
+use crate::edits::{self, List};
 use crate::lent::{Lent, Numbers};
 use crate::random::Random;
 
@@ -20,6 +21,8 @@ pub enum Case {
     Text(Vec<u8>),
     /// An expansion of a file's Exec.
     Expand(Box<Question>),
+    /// Calls that edit, one after another.
+    Edits(List),
 }
 
 /// The arguments of a lookup (group, key) and of a choice (group, plain key, locale).
@@ -41,6 +44,7 @@ impl Case {
             Case::File { file, .. } => file,
             Case::Text(text) => text,
             Case::Expand(question) => &question.file,
+            Case::Edits(list) => list.file(),
         }
     }
 
@@ -53,6 +57,24 @@ impl Case {
             },
             Case::Text(_) => Case::Text(bytes),
             Case::Expand(question) => Case::Expand(Box::new(question.about(bytes))),
+            Case::Edits(list) => Case::Edits(list.about(&bytes)),
+        }
+    }
+
+    /// The same without one of its calls that edit; none if it has no such call.
+    pub fn without(&self, call: usize) -> Option<Case> {
+        match self {
+            Case::Edits(list) => Some(Case::Edits(list.without(call)?)),
+            _ => None,
+        }
+    }
+
+    /// The question in words.
+    pub fn words(&self) -> String {
+        let words = format!("\"{}\"", self.bytes().escape_ascii());
+        match self {
+            Case::Edits(list) => words + &list.words(),
+            _ => words,
         }
     }
 
@@ -74,12 +96,17 @@ impl Case {
                 asker.read_list(text)
             }
             Case::Expand(question) => question.compare(asker),
+            Case::Edits(list) => asker.edits(list, &edits::proved),
         }
     }
 }
 
 /// Names the call in which a difference was found.
-fn named(call: &str, arguments: &[&[u8]], outcome: Result<(), String>) -> Result<(), String> {
+pub(crate) fn named(
+    call: &str,
+    arguments: &[&[u8]],
+    outcome: Result<(), String>,
+) -> Result<(), String> {
     outcome.map_err(|difference| {
         let mut call = call.to_string();
         for argument in arguments {
@@ -89,12 +116,12 @@ fn named(call: &str, arguments: &[&[u8]], outcome: Result<(), String>) -> Result
     })
 }
 
-fn refusal(refusal: reference::Refusal) -> (u32, u64) {
+pub(crate) fn refusal(refusal: reference::Refusal) -> (u32, u64) {
     (refusal.number, refusal.place)
 }
 
 /// Whether the bindings answer as the reference does.
-fn bound<A: PartialEq + std::fmt::Debug>(
+pub(crate) fn bound<A: PartialEq + std::fmt::Debug>(
     answer: Result<A, kveldrim::Refusal>,
     expected: Result<A, (u32, u64)>,
 ) -> Result<(), String> {
@@ -145,11 +172,11 @@ impl Asker {
         self.random = Random::new(seed);
     }
 
-    fn lend(&mut self, bytes: &[u8]) -> Lent {
+    pub(crate) fn lend(&mut self, bytes: &[u8]) -> Lent {
         Lent::new(bytes, &mut self.random)
     }
 
-    fn count<A>(&mut self, call: &'static str, expected: &Result<A, (u32, u64)>) {
+    pub(crate) fn count<A>(&mut self, call: &'static str, expected: &Result<A, (u32, u64)>) {
         let number = expected.as_ref().err().map_or(0, |refusal| refusal.0);
         *self.tally.entry((call, number)).or_default() += 1;
     }
@@ -187,7 +214,7 @@ impl Asker {
         self.count(name, &expected);
         let lent = self.lend(file);
         let mut numbers = Numbers::new();
-        let (place, _, _) = numbers.pointers();
+        let [place, ..] = numbers.pointers();
         // SAFETY: the bytes and the number outlive the call.
         let result = unsafe { call(lent.pointer(), lent.len(), place) };
         let outcome = numbers
@@ -203,7 +230,7 @@ impl Asker {
         self.value_call(
             "lookup",
             [file, group, key],
-            |[(file, f), (group, g), (key, k)], (place, from, to)| unsafe {
+            |[(file, f), (group, g), (key, k)], [place, from, to, _]| unsafe {
                 ffi::kveldrim_lookup(file, f, group, g, key, k, place, from, to)
             },
             reference::lookup(file, group, key),
@@ -217,7 +244,7 @@ impl Asker {
         self.value_call(
             "choose",
             [file, group, key, locale],
-            |[(file, f), (group, g), (key, k), (locale, l)], (place, from, to)| unsafe {
+            |[(file, f), (group, g), (key, k), (locale, l)], [place, from, to, _]| unsafe {
                 ffi::kveldrim_choose(file, f, group, g, key, k, locale, l, place, from, to)
             },
             reference::choose(file, group, key, locale),
@@ -231,7 +258,7 @@ impl Asker {
         &mut self,
         name: &'static str,
         arguments: [&[u8]; N],
-        call: impl Fn([(*const u8, usize); N], (*mut u64, *mut u64, *mut u64)) -> u32,
+        call: impl Fn([(*const u8, usize); N], [*mut u64; 4]) -> u32,
         expected: Result<(usize, usize), reference::Refusal>,
         answer: Result<&[u8], kveldrim::Refusal>,
     ) -> Result<(), String> {
@@ -316,7 +343,7 @@ impl Asker {
             let expected = reference(input, &mut expected_out).map_err(refusal);
             self.count(name, &expected);
             let mut numbers = Numbers::new();
-            let (place, written, _) = numbers.pointers();
+            let [place, written, ..] = numbers.pointers();
             // SAFETY: the bytes and the numbers outlive the call.
             let result = unsafe {
                 call(

@@ -489,7 +489,7 @@ pub fn asked(file: Vec<u8>, asks: usize, random: &mut Random) -> Case {
 }
 
 /// A group and a key that stand in the file, mostly.
-fn ask(file: &[u8], random: &mut Random) -> Ask {
+pub fn ask(file: &[u8], random: &mut Random) -> Ask {
     let lines = split_lines(file);
     let mut group = b"Desktop Entry".to_vec();
     let mut key = pieces::key(random);

@@ -86,25 +86,31 @@ impl Lent {
     }
 }
 
-/// The numbers that a call writes: its place and up to two more, with guards between them.
-pub struct Numbers([u64; 7]);
+/// The numbers of a call: its place and up to three more, which may go in as well as come out, with guards between them.
+pub struct Numbers {
+    slots: [u64; 9],
+    given: [u64; 3],
+}
 
-/// What every number is before the call.
+/// What every number is before the call that does not go in, and every guard.
 const BEFORE: u64 = 0xA5C3_9669_3CA5_5A0F;
 
 impl Numbers {
     pub fn new() -> Numbers {
-        Numbers([BEFORE; 7])
+        Numbers::given([BEFORE; 3])
     }
 
-    /// Pointers to the place and the two further numbers.
-    pub fn pointers(&mut self) -> (*mut u64, *mut u64, *mut u64) {
-        let start = self.0.as_mut_ptr();
-        (
-            start.wrapping_add(1),
-            start.wrapping_add(3),
-            start.wrapping_add(5),
-        )
+    /// Three numbers that go in.
+    pub fn given(given: [u64; 3]) -> Numbers {
+        let mut slots = [BEFORE; 9];
+        [slots[3], slots[5], slots[7]] = given;
+        Numbers { slots, given }
+    }
+
+    /// Pointers to the place and the three further numbers.
+    pub fn pointers(&mut self) -> [*mut u64; 4] {
+        let start = self.slots.as_mut_ptr();
+        [1, 3, 5, 7].map(|slot| start.wrapping_add(slot))
     }
 
     /// Whether the call told this: the numbers of its answer, or a refusal's number and place.
@@ -113,34 +119,31 @@ impl Numbers {
             Ok(answer) => (0, 0, &answer[..]),
             Err((number, place)) => (*number, *place, &[][..]),
         };
-        let more = |at: usize| answer.get(at).copied().unwrap_or(BEFORE);
-        let [before, found, between, first, again, second, after] = self.0;
-        if [before, between, again, after] != [BEFORE; 4] {
+        if self.slots.iter().step_by(2).any(|guard| *guard != BEFORE) {
             return Err("a number beside the lent ones was written".into());
         }
-        let (found, expected) = (
-            (result, found, first, second),
-            (number, place, more(0), more(1)),
-        );
-        if found == expected {
+        let more = [0, 1, 2].map(|at| answer.get(at).copied().unwrap_or(self.given[at]));
+        let [_, told, _, first, _, second, _, third, _] = self.slots;
+        let found = (result, told, [first, second, third]);
+        if found == (number, place, more) {
             return Ok(());
         }
         Err(format!(
             "the library tells  {}\nthe reference      {}",
             words(found),
-            words(expected)
+            words((number, place, more))
         ))
     }
 }
 
-/// A result, its place and its two further numbers.
-fn words((result, place, first, second): (u32, u64, u64, u64)) -> String {
+/// A result, its place and its further numbers.
+fn words((result, place, numbers): (u32, u64, [u64; 3])) -> String {
     let word = |number| match number {
         BEFORE => "-".to_string(),
         number => number.to_string(),
     };
-    let (place, first, second) = (word(place), word(first), word(second));
-    format!("result {result}, place {place}, numbers {first} {second} (-: not written)")
+    let (place, [first, second, third]) = (word(place), numbers.map(word));
+    format!("result {result}, place {place}, numbers {first} {second} {third} (-: not written)")
 }
 
 impl Default for Numbers {

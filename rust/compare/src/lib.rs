@@ -3,8 +3,10 @@
 
 pub mod calls;
 pub mod expand;
+pub mod edits;
 pub mod files;
 pub mod lent;
+pub mod lists;
 pub mod pieces;
 pub mod random;
 pub mod run;

@@ -9,16 +9,17 @@ use crate::calls::{Asker, Case, Tally};
 use crate::random::{mix, Random};
 
 /// Compares `cases` cases that `make` makes, and panics at the first difference. Each of the named outcomes (a call and
-/// its number, 0 for an answer) must come up, so that a test cannot grow empty unseen.
+/// its number, 0 for an answer) must come up, so that a test cannot grow empty unseen. Answers how many calls were made.
 pub fn run(
     test: &str,
     cases: u64,
     outcomes: &[(&'static str, &[u32])],
     make: impl Fn(&mut Random) -> Case,
-) {
+) -> u64 {
     let mut asker = Asker::new(0);
     if let Some(seed) = number("KVELDRIM_REPLAY") {
-        return one(test, seed, &make, &mut asker);
+        one(test, seed, &make, &mut asker);
+        return calls(&asker.tally);
     }
     let base = number("KVELDRIM_SEED").unwrap_or(1);
     let family = test.bytes().fold(base, |sum, byte| mix(sum, byte.into()));
@@ -32,6 +33,11 @@ pub fn run(
             assert!(found, "{test}: {call} never gave {number}");
         }
     }
+    calls(&asker.tally)
+}
+
+fn calls(tally: &Tally) -> u64 {
+    tally.values().sum()
 }
 
 /// A number from the environment.
@@ -41,8 +47,7 @@ fn number(name: &str) -> Option<u64> {
 }
 
 fn words(tally: &Tally) -> String {
-    let calls: u64 = tally.values().sum();
-    let mut words = format!("{calls} calls");
+    let mut words = format!("{} calls", calls(tally));
     let mut last = "";
     for ((call, number), times) in tally {
         if *call != last {
@@ -88,12 +93,19 @@ pub fn smallest(seed: u64, case: Case, mut difference: String) -> String {
             true
         }
     });
-    let input = small.bytes().escape_ascii();
-    format!("{difference}\ninput: \"{input}\"")
+    format!("{difference}\ninput: {}", small.words())
 }
 
-/// Leaves out parts of the input, large ones first, as long as the case still fails.
+/// Leaves out calls that edit, then parts of the input, large ones first, as long as the case still fails.
 fn shrink(mut case: Case, mut fails: impl FnMut(&Case) -> bool) -> Case {
+    let mut call = 0;
+    while let Some(fewer) = case.without(call) {
+        if fails(&fewer) {
+            case = fewer;
+        } else {
+            call += 1;
+        }
+    }
     let mut tries = 3_000;
     let mut size = case.bytes().len();
     while size > 0 {

@@ -1,7 +1,10 @@
 //! The comparison itself: what it must notice, it does.
 
+use compare::calls::{Asker, Case};
+use compare::edits::{proved, Call, Given, Kind};
 use compare::lent::{Lent, Numbers};
 use compare::random::Random;
+use compare::{files, lists};
 
 #[test]
 fn a_changed_byte_in_a_buffer_or_beside_it() {
@@ -25,7 +28,7 @@ fn a_changed_byte_in_a_buffer_or_beside_it() {
 fn a_number_that_is_wrong_missing_or_too_many() {
     let told = |place: u64, from: Option<u64>| {
         let mut numbers = Numbers::new();
-        let (to_place, to_from, _) = numbers.pointers();
+        let [to_place, to_from, ..] = numbers.pointers();
         // SAFETY: both point into `numbers`.
         unsafe {
             *to_place = place;
@@ -46,4 +49,151 @@ fn a_number_that_is_wrong_missing_or_too_many() {
     assert!(told(0, Some(8)).tell(0, &accepted).is_err());
     assert!(told(1, Some(9)).tell(0, &accepted).is_err());
     assert!(told(0, None).tell(0, &accepted).is_err());
+}
+
+/// Whether lists of calls, sound or from foreign journals, show that an editor is not the right one.
+fn is_noticed(editor: &dyn Fn(&Call, &Given) -> u32) -> bool {
+    let mut asker = Asker::new(1);
+    (1..=600).any(|seed| {
+        let mut random = Random::new(seed);
+        let case = match seed % 3 {
+            0 => lists::foreign(&mut random),
+            _ => {
+                let file = files::sound(&mut random, 3, 4);
+                Case::Edits(lists::started(&file, 12, &mut random))
+            }
+        };
+        match case {
+            Case::Edits(list) => asker.edits(&list, editor).is_err(),
+            _ => false,
+        }
+    })
+}
+
+/// The proved call, and then something wrong if the call was of this kind and told this.
+fn spoilt(kind: Kind, accepted: bool, wrong: fn(&Given)) -> impl Fn(&Call, &Given) -> u32 {
+    move |call, given| {
+        let told = proved(call, given);
+        if call.kind == kind && (told == 0) == accepted {
+            wrong(given);
+        }
+        told
+    }
+}
+
+const KINDS: [Kind; 4] = [Kind::Set, Kind::Remove, Kind::Undo, Kind::Redo];
+
+#[test]
+fn the_proved_editor_is_right() {
+    assert!(!is_noticed(&proved));
+}
+
+/// SAFETY of all: they write to what the comparison lent, and read where it has bytes.
+#[test]
+fn an_edit_that_writes_something_wrong() {
+    let wrongs: [(&str, fn(&Given)); 9] = [
+        ("the file's length", |given| unsafe { *given.file_len ^= 1 }),
+        ("used", |given| unsafe { *given.used += 1 }),
+        ("standing", |given| unsafe { *given.standing ^= 2 }),
+        ("place", |given| unsafe { *given.place += 1 }),
+        ("a byte before the file", |given| {
+            if given.file.1 > 0 {
+                unsafe { *given.file.0.offset(-1) ^= 1 }
+            }
+        }),
+        ("the file's first byte", |given| {
+            if given.file.1 > 0 {
+                unsafe { *given.file.0 ^= 1 }
+            }
+        }),
+        ("the last byte of the file's buffer", |given| {
+            if given.file.1 > 0 {
+                unsafe { *given.file.0.add(given.file.1 - 1) ^= 1 }
+            }
+        }),
+        ("the journal's first byte", |given| {
+            if given.journal.1 > 0 {
+                unsafe { *given.journal.0 ^= 1 }
+            }
+        }),
+        ("a byte behind the journal", |given| {
+            if given.journal.1 > 0 {
+                unsafe { *given.journal.0.add(given.journal.1) ^= 1 }
+            }
+        }),
+    ];
+    for (what, wrong) in wrongs {
+        for kind in KINDS {
+            for accepted in [true, false] {
+                assert!(is_noticed(&spoilt(kind, accepted, wrong)), "{what}");
+            }
+        }
+    }
+}
+
+/// A call that is right but for one thing that is easily forgotten.
+#[test]
+fn an_edit_that_forgets_something() {
+    type Editor = fn(&Call, &Given) -> u32;
+    // SAFETY of all: what is read and written is lent, and lengths are those of an accepted call.
+    let editors: [(&str, Editor); 6] = [
+        ("zeros where the file shrinks", |call, given| unsafe {
+            let before = *given.file_len as usize;
+            let last =
+                (0 < before && before <= given.file.1).then(|| *given.file.0.add(before - 1));
+            let told = proved(call, given);
+            match last {
+                Some(byte) if told == 0 && (*given.file_len as usize) < before => {
+                    *given.file.0.add(before - 1) = byte;
+                }
+                _ => {}
+            }
+            told
+        }),
+        (
+            "waiting records are gone after a set",
+            |call, given| unsafe {
+                let before = *given.used;
+                let told = proved(call, given);
+                if call.kind == Kind::Set && told == 0 {
+                    *given.used = before.max(*given.used);
+                }
+                told
+            },
+        ),
+        ("journal bytes behind used stay", |call, given| unsafe {
+            let told = proved(call, given);
+            let used = *given.used as usize;
+            if told == 0 && used < given.journal.1 {
+                *given.journal.0.add(used) = 0;
+            }
+            told
+        }),
+        ("an undo restores the file", |call, given| unsafe {
+            let file = given.file.0;
+            let before: Vec<u8> = (0..given.file.1).map(|at| *file.add(at)).collect();
+            let length = *given.file_len;
+            let told = proved(call, given);
+            if call.kind == Kind::Undo && told == 0 && *given.standing > 0 {
+                file.copy_from(before.as_ptr(), before.len());
+                *given.file_len = length;
+            }
+            told
+        }),
+        ("a redo asks whether anything waits", |call, given| {
+            match (call.kind, proved(call, given)) {
+                (Kind::Redo, 12) => 0,
+                (_, told) => told,
+            }
+        }),
+        ("11 comes before 13", |call, given| {
+            match proved(call, given) {
+                11 => 13,
+                told => told,
+            }
+        }),
+    ];
+    for (what, editor) in editors {
+        assert!(is_noticed(&editor), "{what}");
+    }
 }

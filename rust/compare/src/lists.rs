@@ -1,0 +1,321 @@
+//! Makes lists of calls that edit: sound starts, worked journals, damaged and foreign ones, and those near the bounds.
+
+use reference::State;
+
+use crate::calls::Case;
+use crate::edits::{Call, Kind, List};
+use crate::files;
+use crate::pieces::{self, BORDERS};
+use crate::random::Random;
+
+/// "A file is at most 32,768 bytes", and a journal uses at most 65,536.
+const FILE_BOUND: usize = 32_768;
+const JOURNAL_BOUND: usize = 65_536;
+
+/// A file with room behind it and an empty journal; what is not the file holds a pattern.
+pub fn buffers(file: &[u8], file_more: usize, journal_room: usize, random: &mut Random) -> State {
+    let first = random.below(256);
+    let pattern = |length: usize| (0..length).map(move |at| (first + at * 167) as u8);
+    State {
+        file: file.iter().copied().chain(pattern(file_more)).collect(),
+        file_len: file.len() as u64,
+        journal: pattern(journal_room).collect(),
+        used: 0,
+        standing: 0,
+    }
+}
+
+/// A file in a buffer with little room or enough, and a journal for none, a few or many records.
+fn roomy(file: &[u8], random: &mut Random) -> State {
+    let file_more = match random.below(6) {
+        0 => 0,
+        1 | 2 => random.within(0, 60),
+        _ => random.within(60, 600),
+    };
+    let journal_room = match random.below(20) {
+        0 => JOURNAL_BOUND + random.below(3),
+        1..=3 => random.within(0, 40),
+        4..=10 => random.within(40, 400),
+        _ => random.within(400, 2_000),
+    };
+    buffers(file, file_more, journal_room, random)
+}
+
+/// A list from a file with an empty journal. Its calls share a few names, most of which the file has.
+pub fn started(file: &[u8], most: usize, random: &mut Random) -> List {
+    let start = roomy(file, random);
+    continued(start, most, random)
+}
+
+/// Calls from a start on.
+fn continued(start: State, most: usize, random: &mut Random) -> List {
+    let mut list = List {
+        start,
+        calls: Vec::new(),
+    };
+    let asks: Vec<_> = (0..random.within(1, 5))
+        .map(|_| files::ask(list.file(), random))
+        .collect();
+    for _ in 0..random.within(1, most) {
+        let ask = &asks[random.below(asks.len())];
+        let kind = match random.below(20) {
+            0..=7 => Kind::Set,
+            8..=11 => Kind::Remove,
+            12..=16 => Kind::Undo,
+            _ => Kind::Redo,
+        };
+        let key = if random.once_in(4) {
+            &ask.plain
+        } else {
+            &ask.key
+        };
+        list.calls.push(call(kind, &ask.group, key, random));
+    }
+    list
+}
+
+/// A call, with as many arguments as its kind takes.
+fn call(kind: Kind, group: &[u8], key: &[u8], random: &mut Random) -> Call {
+    let mut call = Call {
+        kind,
+        group: Vec::new(),
+        key: Vec::new(),
+        text: Vec::new(),
+    };
+    if matches!(kind, Kind::Set | Kind::Remove) {
+        (call.group, call.key) = (group.to_vec(), key.to_vec());
+    }
+    if kind == Kind::Set {
+        call.text = text(random);
+    }
+    call
+}
+
+/// A text to set: mostly fit, with what must be escaped, or unfit, or long.
+fn text(random: &mut Random) -> Vec<u8> {
+    match random.below(12) {
+        0 => pieces::wild(random, 10),
+        1 => pieces::text(random),
+        2 => vec![random.byte_of(b"a \n\\"); random.within(30, 400)],
+        3 => [b" ", &pieces::letters(random)[..]].concat(),
+        4 => (0..random.within(0, 4))
+            .map(|_| random.byte_of(b"\n\t\r\\ a\x01\x1F\x7F"))
+            .collect(),
+        5 => Vec::new(),
+        _ => pieces::value(random, pieces::SOUND),
+    }
+}
+
+/// A state with edits in its journal, some of them undone.
+fn worked(random: &mut Random) -> State {
+    let file = files::sound(random, 3, 4);
+    let list = started(&file, 8, random);
+    let mut state = list.start;
+    for call in &list.calls {
+        let _ = call.on_state(&mut state);
+    }
+    state
+}
+
+/// A list from a state with something wrong in it: a number, a byte of the journal or of the file, a buffer cut short.
+pub fn damaged(random: &mut Random) -> Case {
+    let mut state = worked(random);
+    for _ in 0..random.within(1, 2) {
+        damage(&mut state, random);
+    }
+    Case::Edits(continued(state, 4, random))
+}
+
+fn damage(state: &mut State, random: &mut Random) {
+    let used = state.journal.len().min(state.used as usize);
+    let starts = records(&state.journal[..used]);
+    let start = starts[random.below(starts.len())];
+    match random.below(12) {
+        0 => state.file_len = odd(state.file_len, state.file.len(), random),
+        1 => state.used = odd(state.used, state.journal.len(), random),
+        2 => state.standing = odd(state.standing, used, random),
+        3 => state.standing = start as u64,
+        4 => state.used = start as u64,
+        5 if used > 0 => state.journal[random.below(used)] = random.number() as u8,
+        6 if used > 0 => state.journal[random.below(used)] ^= 1 << random.below(8),
+        7 if used > start + 18 => {
+            let at = start + random.below(18);
+            state.journal[at] = random.byte_of(&[0, 1, 2, 17, 18, 19, 255]);
+        }
+        8 if used > 0 => {
+            let noise = pieces::wild(random, used.min(30));
+            let at = random.below(used - noise.len() + 1);
+            state.journal[at..at + noise.len()].copy_from_slice(&noise);
+        }
+        9 if !state.file.is_empty() => {
+            let at = random.below(state.file.len());
+            state.file[at] = random.byte_of(BORDERS);
+        }
+        10 => state.file.truncate(random.within(0, state.file.len())),
+        _ => state
+            .journal
+            .truncate(random.within(0, state.journal.len())),
+    }
+}
+
+/// A number close to the right one, to the room or to a bound, or a very large one.
+fn odd(right: u64, room: usize, random: &mut Random) -> u64 {
+    let near = match random.below(7) {
+        0 => return u64::MAX - random.number() % 3,
+        1 => 1 << 32,
+        2 => JOURNAL_BOUND as u64,
+        3 => FILE_BOUND as u64,
+        4 => room as u64,
+        _ => right,
+    };
+    near.wrapping_add(random.number() % 5).wrapping_sub(2)
+}
+
+/// Where the records of journal bytes start, by their lengths, and where the last ends.
+fn records(used: &[u8]) -> Vec<usize> {
+    let mut starts = vec![0];
+    let mut at = 0;
+    while let Some(length) = used[at..].first_chunk() {
+        let length = u32::from_le_bytes(*length) as usize;
+        if length == 0 || length > used.len() - at {
+            break;
+        }
+        at += length;
+        starts.push(at);
+    }
+    starts
+}
+
+/// A journal's record.
+fn record(place: usize, old: &[u8], new: &[u8]) -> Vec<u8> {
+    let length = 18 + old.len() + new.len();
+    let four = |number: usize| (number as u32).to_le_bytes();
+    let head = [four(place), four(old.len()), four(new.len())];
+    [&four(length)[..], &[1, 0], &head.concat(), old, new].concat()
+}
+
+/// A list from a journal that no call wrote: its records are sound, but what they say of the file is anything.
+pub fn foreign(random: &mut Random) -> Case {
+    let file = files::sound(random, 2, 3);
+    let mut state = roomy(&file, random);
+    let records = random.within(1, 4);
+    let standing = random.within(0, records);
+    let mut journal = Vec::new();
+    for number in 0..records {
+        if number == standing {
+            state.standing = journal.len() as u64;
+        }
+        let place = random.within(0, state.file.len().min(file.len() + 3));
+        let end = random.within(place, state.file.len().min(place + 12));
+        let there = &state.file[place..end];
+        let other = match random.below(4) {
+            0 => Vec::new(),
+            1 => pieces::wild(random, 8),
+            2 => pieces::letters(random),
+            _ => file[random.below(file.len())..]
+                .iter()
+                .take(20)
+                .copied()
+                .collect(),
+        };
+        journal.extend(match number < standing {
+            true => record(place, &other, there),
+            false => record(place, there, &other),
+        });
+    }
+    if standing == records {
+        state.standing = journal.len() as u64;
+    }
+    state.used = journal.len() as u64;
+    let room = state.journal.len().max(journal.len());
+    state.journal.resize(room, 0x5A);
+    state.journal[..journal.len()].copy_from_slice(&journal);
+    if random.once_in(8) {
+        damage(&mut state, random);
+    }
+    Case::Edits(continued(state, 5, random))
+}
+
+/// A list from a file whose length is at the bound or close to it, in a buffer close to it or larger.
+pub fn near_file_bound(random: &mut Random) -> Case {
+    let file = files::near_bound(random);
+    let most = FILE_BOUND + 5 - FILE_BOUND.min(file.len());
+    let file_more = match random.below(3) {
+        0 => random.below(most),
+        1 => most + 100,
+        _ => most - 5,
+    };
+    let start = buffers(&file, file_more, JOURNAL_BOUND, random);
+    Case::Edits(continued(start, 5, random))
+}
+
+/// A list of long texts, which fill a journal up to the bound.
+pub fn near_journal_bound(random: &mut Random) -> Case {
+    let file = b"[Desktop Entry]\nName=a\nName[de]=b\n[X]\nName=c";
+    let room = match random.below(3) {
+        0 => JOURNAL_BOUND,
+        1 => JOURNAL_BOUND + random.within(1, 40_000),
+        _ => JOURNAL_BOUND - random.within(1, 2_000),
+    };
+    let mut list = List {
+        start: buffers(file, FILE_BOUND - file.len(), room, random),
+        calls: Vec::new(),
+    };
+    let mut standing = 0;
+    let mut old = [1; 3];
+    for _ in 0..random.within(4, 12) {
+        let name = random.below(3);
+        let (group, key) = [
+            ("Desktop Entry", "Name"),
+            ("Desktop Entry", "Name[de]"),
+            ("X", "Name"),
+        ][name];
+        let kind = match random.below(6) {
+            0 => Kind::Undo,
+            1 => Kind::Redo,
+            _ => Kind::Set,
+        };
+        let mut made = call(kind, group.as_bytes(), key.as_bytes(), random);
+        if kind == Kind::Set {
+            // Now and then just as much as there is room for, or a byte more.
+            let left = room
+                .min(JOURNAL_BOUND)
+                .saturating_sub(standing + 18 + old[name]);
+            let length = match left {
+                0..=10_500 if random.once_in(2) => left + random.below(3),
+                _ => random.within(1, 10_500),
+            };
+            made.text = vec![random.byte_of(b"abc"); length];
+            standing += 18 + old[name] + length;
+            old[name] = length;
+        }
+        list.calls.push(made);
+    }
+    Case::Edits(list)
+}
+
+/// One call on a file with each size of a buffer, from nothing to `more` bytes over what the call needs, then an undo, a
+/// redo and one more undo.
+pub fn every_size(file: &[u8], call: &Call, more: usize, random: &mut Random) -> Vec<Case> {
+    let mut done = buffers(file, 1_000, 1_000, random);
+    let _ = call.on_state(&mut done);
+    let rest = [Kind::Undo, Kind::Redo, Kind::Undo].map(|kind| Call {
+        kind,
+        group: Vec::new(),
+        key: Vec::new(),
+        text: Vec::new(),
+    });
+    let calls: Vec<Call> = [call.clone()].into_iter().chain(rest).collect();
+    let grown = (done.file_len as usize).saturating_sub(file.len());
+    let journals = (0..=done.used as usize + more).map(|room| (grown + more, room));
+    let files = (0..=grown + more).map(|room| (room, done.used as usize));
+    journals
+        .chain(files)
+        .map(|(file_more, journal_room)| {
+            Case::Edits(List {
+                start: buffers(file, file_more, journal_room, random),
+                calls: calls.clone(),
+            })
+        })
+        .collect()
+}
