@@ -1,26 +1,33 @@
-//! The command `kveldrim`: checks .desktop files, reads their values and expands their commands, with the proved core behind
-//! it.
+//! The command `kveldrim`: checks .desktop files, reads and edits their values and expands their commands, with the proved
+//! core behind it.
 
 #![forbid(unsafe_code)]
 
 mod arguments;
+mod disk;
 mod expand;
+mod journal;
+#[cfg(test)]
+mod kills;
+mod log;
 mod report;
+mod store;
 
 use std::env;
 use std::ffi::{OsStr, OsString};
-use std::fs::File;
-use std::io::{self, Read, Write};
+use std::io::{self, Write};
 use std::ops::Range;
 use std::os::unix::ffi::OsStrExt;
+use std::path::Path;
 use std::process::ExitCode;
 
-use arguments::{Command, Wanted};
-use kveldrim::Refusal;
+use arguments::{Change, Command, Wanted};
+use kveldrim::{Document, Refusal};
 use report::Trouble;
+use store::Store;
 
 const HELP: &str = "\
-Checks .desktop files, reads their values and expands their commands.
+Checks .desktop files, reads and edits their values and expands their commands.
 
   kveldrim check FILE..                 is each file well formed?
   kveldrim complete FILE..              has it also what an entry needs (Type, Name, Exec or URL ..)?
@@ -31,6 +38,15 @@ Checks .desktop files, reads their values and expands their commands.
                     (without: just KEY, which may have a locale of its own, as Name[de])
       --raw         the value as it stands in the file
   kveldrim list FILE KEY [--group G]    writes the elements of a list, each on a line of its own
+  kveldrim set FILE KEY TEXT            sets KEY to TEXT, which is escaped as needed
+  kveldrim remove FILE KEY              removes KEY with its line
+      --group G     in the group G (without: Desktop Entry)
+      --locale L    the key KEY[L]
+      --discard-journal
+                    puts the journal aside under another name and starts a new one
+  kveldrim undo FILE                    takes the latest edit back
+  kveldrim redo FILE                    makes the edit once more that was taken back last
+  kveldrim log FILE                     tells the edits that stand, and those that wait for redo
   kveldrim expand FILE FILES..          writes the arguments of FILE's command for these files; starts nothing
       --locale L    Name and Icon by the locale L, as for get
       --run N       those of run N, from 0 (without: run 0); with %f or %u each file has a run of its own
@@ -41,17 +57,26 @@ Checks .desktop files, reads their values and expands their commands.
                     (without: each on a line of its own, quoted for a shell where needed)
   kveldrim --help, kveldrim --version
 
+Edits are kept in a journal beside the file, .NAME.kveldrim-journal. A call changes both or neither, and only one editor
+at a time; a file that another program has changed since its last edit is not touched.
+
 A word -- ends the options. Values are written as the bytes they are, with a line feed after each. Faults are told as
 FILE:LINE:BYTE: what is wrong, as far as line and byte are known; both count from 1.
 
-Exit status: 0 all is well; 1 a file or a question was refused; 2 bad usage, or a file that cannot be read.
+Exit status: 0 all is well; 1 a file, a question or an edit was refused; 2 bad usage, or a file that cannot be read or
+written.
 ";
 
 fn main() -> ExitCode {
     if env::args_os().nth(1).is_some_and(|word| word == "expand") {
         return expand::expand(env::args_os().skip(2));
     }
-    let command = match arguments::read(env::args_os().skip(1)) {
+    run(env::args_os().skip(1))
+}
+
+/// Does what the words ask for.
+fn run(words: impl Iterator<Item = OsString>) -> ExitCode {
+    let command = match arguments::read(words) {
         Ok(command) => command,
         Err(fault) => return Trouble::usage(&fault).tell(),
     };
@@ -63,7 +88,68 @@ fn main() -> ExitCode {
         Command::Get(wanted) if wanted.raw => value(&wanted, |raw| Ok(vec![raw.to_vec()])),
         Command::Get(wanted) => value(&wanted, |raw| Ok(vec![kveldrim::read_text_vec(raw)?])),
         Command::List(wanted) => value(&wanted, kveldrim::read_list_vec),
+        Command::Set(change) => edit_key(&change, |document| {
+            let Change {
+                group, key, text, ..
+            } = &change;
+            document.set(group.as_bytes(), key.as_bytes(), text.as_bytes())
+        }),
+        Command::Remove(change) => edit_key(&change, |document| {
+            document.remove(change.group.as_bytes(), change.key.as_bytes())
+        }),
+        Command::Undo(file) => step(&file, "undo", Document::undo),
+        Command::Redo(file) => step(&file, "redo", Document::redo),
+        Command::Log(file) => match tell(&file) {
+            Ok(lines) => write(&lines),
+            Err(trouble) => trouble.tell(),
+        },
     }
+}
+
+/// A set or a remove.
+fn edit_key(change: &Change, call: impl FnOnce(&mut Document) -> Result<(), Refusal>) -> ExitCode {
+    edit(&change.file, change.discard, call, |bytes, refusal| {
+        Trouble::of_change(change, bytes, refusal)
+    })
+}
+
+/// An undo or a redo.
+fn step(file: &OsStr, name: &str, call: fn(&mut Document) -> Result<(), Refusal>) -> ExitCode {
+    edit(file, false, call, |bytes, refusal| {
+        Trouble::of_step(file, bytes, refusal, name)
+    })
+}
+
+/// Makes a call on a file and its journal, and saves both if it is accepted.
+fn edit(
+    file: &OsStr,
+    discard: bool,
+    call: impl FnOnce(&mut Document) -> Result<(), Refusal>,
+    refused: impl FnOnce(&[u8], Refusal) -> Trouble,
+) -> ExitCode {
+    let saved = Store::edit(file, discard).and_then(|store| {
+        let mut document = store.document();
+        call(&mut document).map_err(|refusal| match refusal.number {
+            14 => store.damaged(),
+            _ => refused(document.file(), refusal),
+        })?;
+        store.save(&document)
+    });
+    match saved {
+        Ok(()) => ExitCode::SUCCESS,
+        Err(trouble) => trouble.tell(),
+    }
+}
+
+/// The edits of a file's journal, in words.
+fn tell(file: &OsStr) -> Result<Vec<u8>, Trouble> {
+    let store = Store::look(file)?;
+    let document = store.document();
+    let bytes = document.file().to_vec();
+    log::lines(document).map_err(|refusal| match refusal.number {
+        14 => store.damaged(),
+        _ => Trouble::of_file(file, &bytes, refusal),
+    })
 }
 
 /// Asks the same of every file; the status is that of the worst.
@@ -121,14 +207,8 @@ fn locale_of_environment() -> OsString {
 
 /// The bytes of a file, or so many of them that the core refuses it as too long.
 fn read(file: &OsStr) -> Result<Vec<u8>, Trouble> {
-    let mut bytes = Vec::new();
-    File::open(file)
-        .and_then(|open| {
-            open.take(kveldrim::FILE_BOUND as u64 + 1)
-                .read_to_end(&mut bytes)
-        })
-        .map_err(|error| Trouble::unreadable(file, &error))?;
-    Ok(bytes)
+    disk::read(Path::new(file), kveldrim::FILE_BOUND)
+        .map_err(|error| Trouble::unreadable(file, &error))
 }
 
 fn write(bytes: &[u8]) -> ExitCode {

@@ -7,7 +7,7 @@ use std::process::ExitCode;
 
 use kveldrim::{Place, Refusal, DESKTOP_ENTRY};
 
-use crate::arguments::Wanted;
+use crate::arguments::{Change, Wanted};
 
 /// A message and the exit status that goes with it.
 pub struct Trouble {
@@ -39,11 +39,27 @@ impl Trouble {
     }
 
     pub fn unreadable(file: &OsStr, error: &io::Error) -> Trouble {
-        let words = format!(": cannot be read: {error}");
-        Trouble {
-            message: [file.as_bytes(), words.as_bytes()].concat(),
-            status: UNUSABLE,
-        }
+        unusable(file, "cannot be read", error)
+    }
+
+    pub fn uneditable(file: &OsStr, error: &io::Error) -> Trouble {
+        unusable(file, "cannot be edited", error)
+    }
+
+    /// Another editor has the lock.
+    pub fn busy(file: &OsStr) -> Trouble {
+        let words = b"another kveldrim is editing this file just now; nothing was changed";
+        refused(file, "", words)
+    }
+
+    /// The file is not the one that its journal was written for.
+    pub fn foreign(file: &OsStr, journal: &OsStr) -> Trouble {
+        let words = b"another program has changed this file since its last edit, so its journal ";
+        of_journal(file, words, journal, b" no longer belongs to it")
+    }
+
+    pub fn damaged(file: &OsStr, journal: &OsStr) -> Trouble {
+        of_journal(file, b"its journal ", journal, b" is damaged")
     }
 
     pub fn unwritable(error: &io::Error) -> Trouble {
@@ -78,6 +94,33 @@ impl Trouble {
         }
     }
 
+    /// A refusal of a set or a remove.
+    pub fn of_change(change: &Change, bytes: &[u8], refusal: Refusal) -> Trouble {
+        let (key, group) = (change.key.as_bytes(), change.group.as_bytes());
+        let has_group = |file: &[u8]| {
+            let header = [b"[", group, b"]"].concat();
+            file.split(|byte| *byte == b'\n').any(|line| line == header)
+        };
+        let words = match refusal.number {
+            7 => FORMS.to_vec(),
+            8 if has_group(bytes) => [b"there is no key ", key, b" in a group ", group].concat(),
+            8 => [b"there is no group ", group].concat(),
+            10 => UNFIT.to_vec(),
+            11 => b"the file would be over 32,768 bytes".to_vec(),
+            13 => [b"its journal has no room for this edit", DISCARD].concat(),
+            _ => return Trouble::of_file(&change.file, bytes, refusal),
+        };
+        refused(&change.file, "", &words)
+    }
+
+    /// A refusal of an undo or a redo.
+    pub fn of_step(file: &OsStr, bytes: &[u8], refusal: Refusal, step: &str) -> Trouble {
+        match refusal.number {
+            12 => refused(file, "", format!("there is nothing to {step}").as_bytes()),
+            _ => Trouble::of_file(file, bytes, refusal),
+        }
+    }
+
     /// A refusal of a value that starts at `start` in the file.
     pub fn of_value(wanted: &Wanted, bytes: &[u8], start: usize, refusal: Refusal) -> Trouble {
         match refusal.at() {
@@ -95,6 +138,27 @@ impl Trouble {
 const FORMS: &[u8] = b"the group, key or locale asked for is not well written \
     (a key has letters, digits and -, then perhaps [locale], but not beside --locale; \
     a locale is as de, de_AT, de_AT.UTF-8 or de_AT.UTF-8@euro)";
+
+/// What refusal 10 means to somebody at a keyboard.
+const UNFIT: &[u8] =
+    b"this text cannot be set: it must be UTF-8, without control bytes other than tab, LF and CR";
+
+/// What can be done about a journal.
+const DISCARD: &[u8] =
+    b" (set and remove with --discard-journal put the journal aside and start a new one)";
+
+fn of_journal(file: &OsStr, before: &[u8], journal: &OsStr, after: &[u8]) -> Trouble {
+    let words = [before, journal.as_bytes(), after, DISCARD];
+    refused(file, "", &words.concat())
+}
+
+fn unusable(file: &OsStr, what: &str, error: &io::Error) -> Trouble {
+    let words = format!(": {what}: {error}");
+    Trouble {
+        message: [file.as_bytes(), words.as_bytes()].concat(),
+        status: UNUSABLE,
+    }
+}
 
 pub fn refused(file: &OsStr, place: &str, words: &[u8]) -> Trouble {
     Trouble {

@@ -1,86 +1,8 @@
 //! Runs the command as a user does: what it writes, what it tells, how it ends.
 
-use std::ffi::{OsStr, OsString};
-use std::fs;
-use std::os::unix::ffi::{OsStrExt, OsStringExt};
-use std::path::PathBuf;
-use std::process::{self, Command};
-use std::sync::atomic::{AtomicU32, Ordering};
+mod common;
 
-const T: &[u8] = b"[Desktop Entry]\nType=Application\nName=Lesen\nName[fr]=Lire\nExec=view %F\n";
-
-/// A folder of a test's own, removed at the end.
-struct Folder(PathBuf);
-
-impl Folder {
-    fn new() -> Folder {
-        static NUMBER: AtomicU32 = AtomicU32::new(0);
-        let number = NUMBER.fetch_add(1, Ordering::Relaxed);
-        let name = format!("kveldrim-command-{}-{number}", process::id());
-        let folder = std::env::temp_dir().join(name);
-        fs::create_dir(&folder).unwrap();
-        Folder(folder)
-    }
-
-    fn with(self, name: &[u8], bytes: &[u8]) -> Folder {
-        fs::write(self.0.join(OsStr::from_bytes(name)), bytes).unwrap();
-        self
-    }
-
-    /// Runs the command in the folder, without a locale in the environment but the given variables.
-    fn run_in(&self, variables: &[(&str, &str)], words: &[&[u8]]) -> Outcome {
-        let words = words.iter().map(|word| OsString::from_vec(word.to_vec()));
-        let output = Command::new(env!("CARGO_BIN_EXE_kveldrim"))
-            .args(words)
-            .current_dir(&self.0)
-            .env_clear()
-            .envs(variables.iter().copied())
-            .output()
-            .unwrap();
-        Outcome {
-            status: output.status.code().unwrap(),
-            out: output.stdout,
-            told: output.stderr,
-        }
-    }
-
-    fn run(&self, words: &[&[u8]]) -> Outcome {
-        self.run_in(&[], words)
-    }
-}
-
-impl Drop for Folder {
-    fn drop(&mut self) {
-        let _ = fs::remove_dir_all(&self.0);
-    }
-}
-
-struct Outcome {
-    status: i32,
-    out: Vec<u8>,
-    told: Vec<u8>,
-}
-
-impl Outcome {
-    fn writes(&self, expected: &[u8]) {
-        assert_eq!(self.told.escape_ascii().to_string(), "");
-        let (out, expected) = (self.out.escape_ascii(), expected.escape_ascii());
-        assert_eq!(out.to_string(), expected.to_string());
-        assert_eq!(self.status, 0);
-    }
-
-    /// Nothing is written; each line that is told starts so.
-    fn tells(&self, status: i32, starts: &[&str]) {
-        let told = String::from_utf8(self.told.clone()).unwrap();
-        let lines: Vec<&str> = told.lines().collect();
-        assert_eq!(lines.len(), starts.len(), "{told}");
-        for (line, start) in lines.iter().zip(starts) {
-            assert!(line.starts_with(start), "{line}, not {start}");
-        }
-        assert_eq!(self.out.escape_ascii().to_string(), "");
-        assert_eq!(self.status, status);
-    }
-}
+use common::{Folder, T};
 
 #[test]
 fn check_is_quiet_about_a_good_file() {
@@ -291,6 +213,19 @@ fn bad_usage_is_2() {
         &[b"get", b"t", b"Name", b"--rwa"],
         &[b"list", b"t", b"Name", b"--raw"],
         &[b"list", b"t", b"Name", b"--locale", b"de"],
+        &[b"set", b"t", b"Name"],
+        &[b"set", b"t", b"Name", b"a", b"b"],
+        &[b"set", b"t", b"Name", b"-a"],
+        &[b"set", b"t", b"Name", b"a", b"--raw"],
+        &[b"set", b"t", b"Name", b"a", b"--locale", b"auto"],
+        &[b"set", b"t", b"Name", b"a", b"--discard-journal=1"],
+        &[b"remove", b"t"],
+        &[b"remove", b"t", b"Name", b"a"],
+        &[b"get", b"t", b"Name", b"--discard-journal"],
+        &[b"undo"],
+        &[b"undo", b"t", b"t"],
+        &[b"redo", b"t", b"--group", b"x"],
+        &[b"log", b"t", b"--discard-journal"],
         &[b"\xFF"],
     ];
     for words in wrong {

@@ -4,8 +4,8 @@ use std::collections::BTreeMap;
 
 use kveldrim::ffi;
 
-use crate::expand::Question;
 use crate::edits::{self, List};
+use crate::expand::Question;
 use crate::lent::{Lent, Numbers};
 use crate::random::Random;
 

@@ -2,8 +2,8 @@
 //! for byte. `tests/` says which questions are asked and how many; this is what those tests share.
 
 pub mod calls;
-pub mod expand;
 pub mod edits;
+pub mod expand;
 pub mod files;
 pub mod lent;
 pub mod lists;

@@ -1,0 +1,149 @@
+//! The bytes of a journal's file: one file with its records, or two while a call is being written (docs/JOURNAL.md).
+
+use kveldrim::{FILE_BOUND, JOURNAL_BOUND};
+
+/// A file and the journal that belongs to it.
+#[derive(Debug, Clone, PartialEq, Eq)]
+pub struct Pair {
+    pub file: Vec<u8>,
+    pub records: Vec<u8>,
+    pub standing: u64,
+}
+
+impl Pair {
+    /// A file with an empty journal.
+    pub fn new(file: Vec<u8>) -> Pair {
+        Pair {
+            file,
+            records: Vec::new(),
+            standing: 0,
+        }
+    }
+}
+
+const MAGIC: &[u8] = b"kveldrim";
+const VERSION: u32 = 1;
+
+/// The most bytes that a journal's file has.
+pub const MOST: usize = 16 + 2 * (12 + FILE_BOUND + JOURNAL_BOUND);
+
+/// The bytes of a journal's file with these pairs, the newest first.
+pub fn write(pairs: &[&Pair]) -> Vec<u8> {
+    let mut bytes = MAGIC.to_vec();
+    bytes.extend(VERSION.to_le_bytes());
+    bytes.extend((pairs.len() as u32).to_le_bytes());
+    for pair in pairs {
+        let numbers = [pair.file.len(), pair.records.len(), pair.standing as usize];
+        bytes.extend(numbers.map(|number| (number as u32).to_le_bytes()).concat());
+        bytes.extend(&pair.file);
+        bytes.extend(&pair.records);
+    }
+    bytes
+}
+
+/// The pairs of a journal's file, the newest first; none if the bytes are no such file.
+pub fn read(bytes: &[u8]) -> Option<Vec<Pair>> {
+    let mut rest = bytes.strip_prefix(MAGIC)?;
+    let (version, pairs) = (number(&mut rest)?, number(&mut rest)?);
+    if version != VERSION || !(1..=2).contains(&pairs) {
+        return None;
+    }
+    let pairs = (0..pairs).map(|_| read_pair(&mut rest)).collect();
+    rest.is_empty().then_some(pairs)?
+}
+
+fn read_pair(rest: &mut &[u8]) -> Option<Pair> {
+    let (file, records) = (number(rest)? as usize, number(rest)? as usize);
+    let standing = number(rest)?.into();
+    if file > FILE_BOUND || records > JOURNAL_BOUND || standing > records as u64 {
+        return None;
+    }
+    Some(Pair {
+        file: take(rest, file)?.to_vec(),
+        records: take(rest, records)?.to_vec(),
+        standing,
+    })
+}
+
+/// The next number of 4 bytes, little-endian.
+fn number(rest: &mut &[u8]) -> Option<u32> {
+    let four = take(rest, 4)?.first_chunk()?;
+    Some(u32::from_le_bytes(*four))
+}
+
+/// The next bytes.
+fn take<'a>(rest: &mut &'a [u8], length: usize) -> Option<&'a [u8]> {
+    let (taken, left) = rest.split_at_checked(length)?;
+    *rest = left;
+    Some(taken)
+}
+
+#[cfg(test)]
+mod tests {
+    use super::*;
+
+    fn pairs() -> [Pair; 2] {
+        let old = Pair::new(b"[Desktop Entry]\n".to_vec());
+        let new = Pair {
+            file: b"[Desktop Entry]\nA=\n".to_vec(),
+            records: vec![7; 21],
+            standing: 21,
+        };
+        [new, old]
+    }
+
+    #[test]
+    fn what_is_written_is_read() {
+        let [new, old] = pairs();
+        for written in [&[&new][..], &[&old], &[&new, &old]] {
+            let read = read(&write(written)).unwrap();
+            assert_eq!(read.iter().collect::<Vec<_>>(), written);
+        }
+    }
+
+    #[test]
+    fn layout() {
+        let [new, _] = pairs();
+        let numbers: &[u8] = &[
+            1, 0, 0, 0, 1, 0, 0, 0, 19, 0, 0, 0, 21, 0, 0, 0, 21, 0, 0, 0,
+        ];
+        let expected = [b"kveldrim", numbers, &new.file, &new.records].concat();
+        assert_eq!(write(&[&new]), expected);
+    }
+
+    #[test]
+    fn other_bytes_are_refused() {
+        let [new, old] = pairs();
+        let bytes = write(&[&new, &old]);
+        for length in 0..bytes.len() {
+            assert_eq!(read(&bytes[..length]), None, "{length}");
+        }
+        assert_eq!(read(&[&bytes[..], b"x"].concat()), None);
+        // Magic, version, number of pairs, lengths, standing.
+        for (at, byte) in [
+            (0, b'K'),
+            (8, 2),
+            (12, 0),
+            (12, 3),
+            (17, 255),
+            (22, 2),
+            (24, 22),
+        ] {
+            let mut wrong = bytes.clone();
+            wrong[at] = byte;
+            assert_eq!(read(&wrong), None, "{at}");
+        }
+    }
+
+    #[test]
+    fn the_longest() {
+        let pair = Pair {
+            file: vec![b'\n'; FILE_BOUND],
+            records: vec![1; JOURNAL_BOUND],
+            standing: 0,
+        };
+        let bytes = write(&[&pair, &pair]);
+        assert_eq!(bytes.len(), MOST);
+        assert!(read(&bytes).is_some());
+    }
+}

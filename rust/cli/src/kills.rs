@@ -1,0 +1,228 @@
+//! Kills the command at each step of what it does on disk, and asks what the next run finds.
+//!
+//! A test runs itself again as a child: [`child`] does what the command does and dies at the step that it is told.
+
+use std::collections::BTreeMap;
+use std::env;
+use std::ffi::{OsStr, OsString};
+use std::fs;
+use std::path::{Path, PathBuf};
+use std::process::{self, Command, ExitCode};
+use std::sync::atomic::{AtomicU32, Ordering};
+
+use crate::journal::{self, Pair};
+use crate::store::Store;
+
+const WORDS: &str = "KVELDRIM_TEST_WORDS";
+const STEP: &str = "KVELDRIM_TEST_STEP";
+
+/// Dies if this is the step to die at.
+pub fn step() {
+    static STEPS: AtomicU32 = AtomicU32::new(1);
+    let Ok(last) = env::var(STEP) else {
+        return;
+    };
+    if STEPS.fetch_add(1, Ordering::Relaxed).to_string() == last {
+        process::abort();
+    }
+}
+
+/// The command in a process of its own.
+#[test]
+#[ignore = "the other tests run it"]
+fn child() {
+    if let Ok(words) = env::var(WORDS) {
+        let words = words.split('\n').map(OsString::from);
+        process::exit(i32::from(crate::run(words) != ExitCode::SUCCESS));
+    }
+}
+
+/// Everything in a folder, by name.
+type Folder = BTreeMap<OsString, Vec<u8>>;
+
+/// A folder of a test's own, removed at the end.
+struct Place(PathBuf);
+
+impl Place {
+    fn with(content: &Folder) -> Place {
+        static NUMBER: AtomicU32 = AtomicU32::new(0);
+        let number = NUMBER.fetch_add(1, Ordering::Relaxed);
+        let name = format!("kveldrim-kills-{}-{number}", process::id());
+        let place = Place(env::temp_dir().join(name));
+        fs::create_dir(&place.0).unwrap();
+        for (name, bytes) in content {
+            fs::write(place.0.join(name), bytes).unwrap();
+        }
+        place
+    }
+
+    fn content(&self) -> Folder {
+        let entries = fs::read_dir(&self.0).unwrap();
+        entries
+            .map(|entry| entry.unwrap())
+            .map(|entry| (entry.file_name(), fs::read(entry.path()).unwrap()))
+            .collect()
+    }
+
+    fn file(&self) -> PathBuf {
+        self.0.join("t")
+    }
+
+    /// Runs the command on the file in a child; false if it was killed at the step.
+    fn run(&self, words: &[&str], step: Option<u32>) -> bool {
+        let file = self.file();
+        let words: Vec<&str> = [words[0], file.to_str().unwrap()]
+            .into_iter()
+            .chain(words[1..].iter().copied())
+            .collect();
+        let mut command = Command::new(env::current_exe().unwrap());
+        command
+            .args(["--exact", "kills::child", "--ignored", "--nocapture"])
+            .env(WORDS, words.join("\n"))
+            .env_remove(STEP);
+        if let Some(step) = step {
+            command.env(STEP, step.to_string());
+        }
+        let outcome = command.output().unwrap();
+        let told = String::from_utf8_lossy(&outcome.stderr);
+        let status = outcome.status.code();
+        assert!(matches!(status, None | Some(0)), "{words:?}: {told}");
+        status.is_some()
+    }
+}
+
+impl Drop for Place {
+    fn drop(&mut self) {
+        let _ = fs::remove_dir_all(&self.0);
+    }
+}
+
+/// What a run would find: the file with its journal.
+fn found(file: &Path) -> Pair {
+    let store = Store::look(file.as_os_str()).unwrap_or_else(|trouble| {
+        trouble.tell();
+        panic!("no matching pair is found");
+    });
+    let document = store.document();
+    Pair {
+        file: document.file().to_vec(),
+        records: document.journal().to_vec(),
+        standing: document.standing(),
+    }
+}
+
+/// The command killed at each step, from the same start: the next run finds the start or the end, whole.
+fn killed_at_each_step(setup: &[&[&str]], words: &[&str]) {
+    let file = b"[Desktop Entry]\nName=Lesen\nName[fr]=Lire\nExec=view";
+    let first = Place::with(&Folder::from([("t".into(), file.to_vec())]));
+    for words in setup {
+        assert!(first.run(words, None));
+    }
+    let start = first.content();
+    let before = found(&first.file());
+    assert!(first.run(words, None));
+    let end = first.content();
+    let after = found(&first.file());
+
+    let mut steps = 0;
+    loop {
+        let place = Place::with(&start);
+        if place.run(words, Some(steps + 1)) {
+            assert_eq!(place.content(), end);
+            break;
+        }
+        steps += 1;
+        let discards = words.contains(&"--discard-journal");
+        let pair = found(&place.file());
+        assert_eq!(pair.file, fs::read(place.file()).unwrap());
+        if discards || pair != after {
+            keeps_journal(&start, &place.content());
+        }
+        if pair != after {
+            // Nothing was done: the same words then do it all.
+            assert!(discards || pair == before);
+            assert_eq!(pair.file, before.file);
+            assert!(place.run(words, None));
+            assert_eq!(found(&place.file()), after);
+        }
+        // What a killed run leaves behind is gone after the next edit.
+        assert!(place.run(&["set", "Last", "1"], None));
+        let own = |name: &&OsString| {
+            let name = name.to_string_lossy();
+            name.ends_with("new") || name.ends_with("lock")
+        };
+        assert_eq!(place.content().keys().find(own), None, "step {steps}");
+    }
+    assert!(steps >= 12, "{steps}");
+}
+
+/// Whether every journal's records of before are somewhere in the folder.
+fn keeps_journal(before: &Folder, now: &Folder) {
+    let pairs = |folder: &Folder| -> Vec<Pair> {
+        let journals = folder.values().filter_map(|bytes| journal::read(bytes));
+        journals.flatten().collect()
+    };
+    for pair in pairs(before) {
+        assert!(pairs(now).contains(&pair));
+    }
+}
+
+const EDITS: &[&[&str]] = &[
+    &["set", "Name", "Les"],
+    &["remove", "Exec"],
+    &["set", "Icon", "book"],
+    &["set", "Icon", "books"],
+    &["undo"],
+    &["undo"],
+];
+
+#[test]
+fn the_first_edit() {
+    killed_at_each_step(&[], &["set", "Name", "Les"]);
+}
+
+/// The records that wait are lost with this edit, so not before it is done.
+#[test]
+fn a_set_over_waiting_edits() {
+    killed_at_each_step(EDITS, &["set", "Name", "Lesestunde"]);
+}
+
+#[test]
+fn a_set_that_changes_no_byte_of_the_file() {
+    killed_at_each_step(EDITS, &["set", "Name", "Les"]);
+}
+
+#[test]
+fn a_remove() {
+    killed_at_each_step(EDITS, &["remove", "Name[fr]"]);
+}
+
+#[test]
+fn an_undo() {
+    killed_at_each_step(EDITS, &["undo"]);
+}
+
+#[test]
+fn a_redo() {
+    killed_at_each_step(EDITS, &["redo"]);
+}
+
+#[test]
+fn a_new_journal() {
+    killed_at_each_step(EDITS, &["set", "Name", "x", "--discard-journal"]);
+}
+
+/// Files that a killed run left half written are no matter.
+#[test]
+fn leftovers() {
+    let file = b"[Desktop Entry]\nName=Lesen\n";
+    let mut content = Folder::from([("t".into(), file.to_vec())]);
+    for end in ["new", "journal-new", "lock"] {
+        content.insert(format!(".t.kveldrim-{end}").into(), b"[Desk".to_vec());
+    }
+    let place = Place::with(&content);
+    assert!(place.run(&["set", "Name", "Les"], None));
+    let content = place.content();
+    let names: Vec<&OsStr> = content.keys().map(OsString::as_os_str).collect();
+    assert_eq!(names, [".t.kveldrim-journal", "t"]);
+}

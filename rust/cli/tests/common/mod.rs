@@ -1,0 +1,102 @@
+//! What the tests of the command share: a folder of their own, and runs of the command in it.
+
+// Each file of tests is a program of its own and uses a part of this.
+#![allow(dead_code)]
+
+use std::ffi::{OsStr, OsString};
+use std::fs;
+use std::os::unix::ffi::{OsStrExt, OsStringExt};
+use std::path::PathBuf;
+use std::process::{self, Command};
+use std::sync::atomic::{AtomicU32, Ordering};
+
+pub const T: &[u8] =
+    b"[Desktop Entry]\nType=Application\nName=Lesen\nName[fr]=Lire\nExec=view %F\n";
+
+/// A folder of a test's own, removed at the end.
+pub struct Folder(pub PathBuf);
+
+impl Folder {
+    pub fn new() -> Folder {
+        static NUMBER: AtomicU32 = AtomicU32::new(0);
+        let number = NUMBER.fetch_add(1, Ordering::Relaxed);
+        let name = format!("kveldrim-command-{}-{number}", process::id());
+        let folder = std::env::temp_dir().join(name);
+        fs::create_dir(&folder).unwrap();
+        Folder(folder)
+    }
+
+    pub fn with(self, name: &[u8], bytes: &[u8]) -> Folder {
+        fs::write(self.0.join(OsStr::from_bytes(name)), bytes).unwrap();
+        self
+    }
+
+    /// Runs the command in the folder, without a locale in the environment but the given variables.
+    pub fn run_in(&self, variables: &[(&str, &str)], words: &[&[u8]]) -> Outcome {
+        let mut command = Command::new(env!("CARGO_BIN_EXE_kveldrim"));
+        command.env_clear().envs(variables.iter().copied());
+        self.run_by(command, words)
+    }
+
+    /// Runs the command that is prepared so, in the folder.
+    pub fn run_by(&self, mut command: Command, words: &[&[u8]]) -> Outcome {
+        let words = words.iter().map(|word| OsString::from_vec(word.to_vec()));
+        let output = command.args(words).current_dir(&self.0).output().unwrap();
+        Outcome {
+            status: output.status.code().unwrap(),
+            out: output.stdout,
+            told: output.stderr,
+        }
+    }
+
+    /// The bytes of a file in the folder.
+    pub fn read(&self, name: &str) -> Vec<u8> {
+        fs::read(self.0.join(name)).unwrap()
+    }
+
+    /// The names of all files in the folder, sorted.
+    pub fn names(&self) -> Vec<String> {
+        let entries = fs::read_dir(&self.0).unwrap();
+        let name = |entry: fs::DirEntry| entry.file_name().into_string().unwrap();
+        let mut names: Vec<String> = entries.map(|entry| name(entry.unwrap())).collect();
+        names.sort();
+        names
+    }
+
+    pub fn run(&self, words: &[&[u8]]) -> Outcome {
+        self.run_in(&[], words)
+    }
+}
+
+impl Drop for Folder {
+    fn drop(&mut self) {
+        let _ = fs::remove_dir_all(&self.0);
+    }
+}
+
+pub struct Outcome {
+    pub status: i32,
+    pub out: Vec<u8>,
+    pub told: Vec<u8>,
+}
+
+impl Outcome {
+    pub fn writes(&self, expected: &[u8]) {
+        assert_eq!(self.told.escape_ascii().to_string(), "");
+        let (out, expected) = (self.out.escape_ascii(), expected.escape_ascii());
+        assert_eq!(out.to_string(), expected.to_string());
+        assert_eq!(self.status, 0);
+    }
+
+    /// Nothing is written; each line that is told starts so.
+    pub fn tells(&self, status: i32, starts: &[&str]) {
+        let told = String::from_utf8(self.told.clone()).unwrap();
+        let lines: Vec<&str> = told.lines().collect();
+        assert_eq!(lines.len(), starts.len(), "{told}");
+        for (line, start) in lines.iter().zip(starts) {
+            assert!(line.starts_with(start), "{line}, not {start}");
+        }
+        assert_eq!(self.out.escape_ascii().to_string(), "");
+        assert_eq!(self.status, status);
+    }
+}
