@@ -71,6 +71,7 @@ pub fn read(words: impl Iterator<Item = OsString>) -> Result<Command, Vec<u8>> {
         Some(name @ "undo") => Ok(Command::Undo(words.file(name)?)),
         Some(name @ "redo") => Ok(Command::Redo(words.file(name)?)),
         Some(name @ "log") => Ok(Command::Log(words.file(name)?)),
+        Some("expand") => Err("expand must stand before its options".into()),
         _ => Err([b"there is no command ", name.as_bytes()].concat()),
     }
 }

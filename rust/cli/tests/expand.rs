@@ -258,6 +258,10 @@ fn wrong_usage() {
         "kveldrim: --runs goes with neither",
     );
     usage(&[b"absent"], "absent: cannot be read");
+    let late = Command::new(env!("CARGO_BIN_EXE_kveldrim"))
+        .args(["--locale=de", "expand", "t"])
+        .output();
+    Outcome(late.unwrap()).tells(2, "kveldrim: expand must stand before its options");
     let help = folder.expand(&[b"--help"]);
     assert!(help.0.stdout.starts_with(b"Checks .desktop files"));
     assert_eq!(help.0.status.code(), Some(0));

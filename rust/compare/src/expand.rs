@@ -118,7 +118,7 @@ impl Question {
         let lent = inputs.map(|bytes| Lent::new(bytes, random));
         let [file, locale, location, list] = &lent;
         let mut numbers = Numbers::new();
-        let (place, written, _) = numbers.pointers();
+        let [place, written, ..] = numbers.pointers();
         // SAFETY: the bytes and the numbers outlive the call.
         let result = unsafe {
             kveldrim_expand(
