@@ -212,10 +212,20 @@ pub fn question(random: &mut Random, once: usize) -> Question {
     if random.once_in(15) {
         spoil(&mut file, random);
     }
+    of_file(file, random)
+}
+
+/// A question of this file and any of few items.
+pub fn of_file(file: Vec<u8>, random: &mut Random) -> Question {
+    let items = items(random);
+    asked(file, items, random)
+}
+
+/// A question of this file and these items, with the other arguments right mostly.
+fn asked(file: Vec<u8>, items: Vec<Vec<u8>>, random: &mut Random) -> Question {
     let mut question = Question::of(file, random.number());
     question.locale = locale(random);
     question.location = location(random);
-    let items = items(random);
     question.run = run(items.len(), random);
     question.list(items, random);
     question
@@ -562,17 +572,12 @@ pub fn large_question(random: &mut Random) -> Question {
     if random.once_in(2) {
         fill_file(&mut file, random);
     }
-    let mut question = Question::of(file, random.number());
-    question.locale = locale(random);
-    question.location = location(random);
     let items = match random.below(3) {
         0 => items(random),
         1 => many_items(random),
         _ => vec![vec![b'i'; LIST_BOUND - 6 + random.below(2)]],
     };
-    question.run = run(items.len(), random);
-    question.list(items, random);
-    question
+    asked(file, items, random)
 }
 
 /// A comment that makes the file as long as it may be, or a byte longer.

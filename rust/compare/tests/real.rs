@@ -3,6 +3,7 @@
 use std::{env, fs};
 
 use compare::calls::Case;
+use compare::expand;
 use compare::files;
 use compare::run::run;
 use reference::lines::{read_line, split_lines, Line};
@@ -56,5 +57,21 @@ fn real_values() {
     }
     run("real_values", values.len() as u64, &[], |random| {
         Case::Text(values[random.below(values.len())].clone())
+    });
+}
+
+#[test]
+fn real_commands() {
+    let real = real_files();
+    if real.is_empty() {
+        return;
+    }
+    let times = real.len() as u64 * 100;
+    run("real_commands", times, &[], |random| {
+        let mut file = real[random.below(real.len())].clone();
+        if random.once_in(4) {
+            files::spoil(&mut file, random);
+        }
+        Case::Expand(Box::new(expand::of_file(file, random)))
     });
 }
