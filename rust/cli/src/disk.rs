@@ -138,29 +138,43 @@ pub fn read(file: &Path, most: usize) -> io::Result<Vec<u8>> {
     Ok(bytes)
 }
 
-/// Puts a new file and a new journal in place of the old ones. `journal` names both the old and the new file until the new
-/// one is in place, `settled` only the new one; `aside` is an old journal to keep. After an error the old ones are there.
-pub fn replace(
-    names: &Names,
-    like: &Metadata,
-    file: &[u8],
-    journal: &[u8],
-    settled: &[u8],
-    aside: Option<&[u8]>,
-) -> io::Result<()> {
-    let written = aside
+/// What is to be put on disk.
+pub struct Replacement<'a> {
+    /// The bytes that the file has, and those that it is to have.
+    pub old: &'a [u8],
+    pub new: &'a [u8],
+    /// A journal that belongs to both, and one that belongs to the new bytes alone.
+    pub journal: &'a [u8],
+    pub settled: &'a [u8],
+    /// An old journal to keep under another name.
+    pub aside: Option<&'a [u8]>,
+}
+
+/// Puts new bytes and a new journal in place of the old ones. After an error the old bytes and their journal are there.
+pub fn replace(names: &Names, like: &Metadata, with: &Replacement) -> io::Result<()> {
+    let written = with
+        .aside
         .map_or(Ok(()), |bytes| put_aside(names, bytes, like))
-        .and_then(|()| write_new(&names.new_file(), file, like))
-        .and_then(|()| write_new(&names.new_journal(), journal, like))
+        .and_then(|()| write_new(&names.new_file(), with.new, like))
+        .and_then(|()| write_new(&names.new_journal(), with.journal, like))
         .and_then(|()| rename(names, &names.new_journal(), &names.journal()))
+        .and_then(|()| unchanged(&names.file, with.old))
         .and_then(|()| rename(names, &names.new_file(), &names.file));
     if written.is_ok() {
         // The edit is done. Where this fails, the journal that is there serves as well.
-        let _ = write_new(&names.new_journal(), settled, like)
+        let _ = write_new(&names.new_journal(), with.settled, like)
             .and_then(|()| rename(names, &names.new_journal(), &names.journal()));
     }
     let _ = remove(&names.new_file()).and(remove(&names.new_journal()));
     written
+}
+
+/// Whether a file still has these bytes: the last question before they are replaced.
+fn unchanged(file: &Path, bytes: &[u8]) -> io::Result<()> {
+    match read(file, bytes.len())? == bytes {
+        true => Ok(()),
+        false => Err(io::Error::other("another program has just changed it")),
+    }
 }
 
 /// A copy of an old journal under the first free name.

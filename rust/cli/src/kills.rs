@@ -15,15 +15,22 @@ use crate::store::Store;
 
 const WORDS: &str = "KVELDRIM_TEST_WORDS";
 const STEP: &str = "KVELDRIM_TEST_STEP";
+const CHANGE: &str = "KVELDRIM_TEST_CHANGE";
 
-/// Dies if this is the step to die at.
+/// What another program writes to the file.
+const OTHER: &[u8] = b"[Desktop Entry]\nName=other\n";
+
+/// Dies if this is the step to die at, or does what another program may do just then: changes the file.
 pub fn step() {
     static STEPS: AtomicU32 = AtomicU32::new(1);
     let Ok(last) = env::var(STEP) else {
         return;
     };
     if STEPS.fetch_add(1, Ordering::Relaxed).to_string() == last {
-        process::abort();
+        match env::var(CHANGE) {
+            Ok(file) => fs::write(file, OTHER).unwrap(),
+            Err(_) => process::abort(),
+        }
     }
 }
 
@@ -68,18 +75,20 @@ impl Place {
         self.0.join("t")
     }
 
-    /// Runs the command on the file in a child; false if it was killed at the step.
-    fn run(&self, words: &[&str], step: Option<u32>) -> bool {
+    /// The command on the file, in a child.
+    fn command(&self, words: &[&str]) -> Command {
         let file = self.file();
-        let words: Vec<&str> = [words[0], file.to_str().unwrap()]
-            .into_iter()
-            .chain(words[1..].iter().copied())
-            .collect();
+        let words = [&[words[0], file.to_str().unwrap()], &words[1..]].concat();
         let mut command = Command::new(env::current_exe().unwrap());
         command
             .args(["--exact", "kills::child", "--ignored", "--nocapture"])
-            .env(WORDS, words.join("\n"))
-            .env_remove(STEP);
+            .env(WORDS, words.join("\n"));
+        command
+    }
+
+    /// Runs the command; false if it was killed at the step.
+    fn run(&self, words: &[&str], step: Option<u32>) -> bool {
+        let mut command = self.command(words);
         if let Some(step) = step {
             command.env(STEP, step.to_string());
         }
@@ -210,6 +219,34 @@ fn a_redo() {
 #[test]
 fn a_new_journal() {
     killed_at_each_step(EDITS, &["set", "Name", "x", "--discard-journal"]);
+}
+
+/// Another program changes the file while an edit is under way. Up to the last step before the file is replaced, its bytes
+/// stay and the edit is refused; the journal keeps all that it had.
+#[test]
+fn a_change_during_an_edit() {
+    let file = b"[Desktop Entry]\nName=Lesen\n";
+    let first = Place::with(&Folder::from([("t".into(), file.to_vec())]));
+    assert!(first.run(&["set", "Name", "Les"], None));
+    let start = first.content();
+    let mut refused = 0;
+    for step in 1.. {
+        let place = Place::with(&start);
+        let mut command = place.command(&["set", "Name", "Lesung"]);
+        let outcome = command
+            .env(STEP, step.to_string())
+            .env(CHANGE, place.file())
+            .output();
+        let done = outcome.unwrap().status.success();
+        if done {
+            break;
+        }
+        refused += 1;
+        assert_eq!(fs::read(place.file()).unwrap(), OTHER);
+        keeps_journal(&start, &place.content());
+    }
+    // Two files are written aside and the journal is renamed.
+    assert_eq!(refused, 10);
 }
 
 /// Files that a killed run left half written are no matter.

@@ -48,7 +48,7 @@ impl Trouble {
 
     /// Another editor has the lock.
     pub fn busy(file: &OsStr) -> Trouble {
-        let words = b"another kveldrim is editing this file just now; nothing was changed";
+        let words = b"another kveldrim is at work on this file just now; nothing was changed";
         refused(file, "", words)
     }
 

@@ -6,7 +6,7 @@ use std::io::{self, ErrorKind};
 
 use kveldrim::{Document, FILE_BOUND};
 
-use crate::disk::{self, Lock, Names};
+use crate::disk::{self, Lock, Names, Replacement};
 use crate::journal::{self, Pair};
 use crate::report::Trouble;
 
@@ -97,15 +97,15 @@ impl Store {
             records: document.journal().to_vec(),
             standing: document.standing(),
         };
-        disk::replace(
-            &self.names,
-            &self.like,
-            &after.file,
-            &journal::write(&[&after, &self.before]),
-            &journal::write(&[&after]),
-            self.aside.as_deref(),
-        )
-        .map_err(|error| Trouble::uneditable(&self.given, &error))
+        let replacement = Replacement {
+            old: &self.before.file,
+            new: &after.file,
+            journal: &journal::write(&[&after, &self.before]),
+            settled: &journal::write(&[&after]),
+            aside: self.aside.as_deref(),
+        };
+        disk::replace(&self.names, &self.like, &replacement)
+            .map_err(|error| Trouble::uneditable(&self.given, &error))
     }
 }
 

@@ -284,13 +284,13 @@ fn two_editors_at_once() {
     let path = folder.0.join(".t.kveldrim-lock");
     let other = File::create(&path).unwrap();
     other.lock().unwrap();
-    let told = "t: another kveldrim is editing this file just now; nothing was changed";
+    let told = "t: another kveldrim is at work on this file just now; nothing was changed";
     for words in COMMANDS {
         folder.refuses(1, words, told);
     }
     // Reading needs no lock, and a lock ends with its holder, even if its file stays.
     folder.run(&[b"get", b"t", b"Name"]).writes(b"Les\n");
-    drop(other);
+    other.unlock().unwrap();
     folder.does(&["undo", "t"]);
     assert_eq!(folder.names(), [JOURNAL, "t"]);
 }

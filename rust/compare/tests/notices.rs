@@ -93,7 +93,7 @@ fn the_proved_editor_is_right() {
 fn an_edit_that_writes_something_wrong() {
     let wrongs: [(&str, fn(&Given)); 9] = [
         ("the file's length", |given| unsafe { *given.file_len ^= 1 }),
-        ("used", |given| unsafe { *given.used += 1 }),
+        ("used", |given| unsafe { *given.used ^= 1 }),
         ("standing", |given| unsafe { *given.standing ^= 2 }),
         ("place", |given| unsafe { *given.place += 1 }),
         ("a byte before the file", |given| {
