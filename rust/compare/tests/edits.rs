@@ -134,7 +134,7 @@ fn buffers_of_every_size() {
 
 /// Half a million calls in long lists: cargo test --release -p kveldrim-compare --test edits -- --ignored --nocapture
 #[test]
-#[ignore = "takes minutes"]
+#[ignore = "run it where edits are changed"]
 fn half_a_million_calls() {
     let calls = run("half_a_million_calls", 24_000, &[], |random| {
         let file = files::sound(random, 4, 6);

@@ -3,9 +3,9 @@
 use std::{env, fs};
 
 use compare::calls::Case;
-use compare::expand;
-use compare::files;
+use compare::random::Random;
 use compare::run::run;
+use compare::{expand, files, lists};
 use reference::lines::{read_line, split_lines, Line};
 
 /// The files of the folder; none if there is no such folder.
@@ -25,19 +25,37 @@ fn real_files() -> Vec<Vec<u8>> {
         .collect()
 }
 
-#[test]
-fn real_files_whole_and_spoilt() {
+/// Compares cases made of real files, so many for each; one file in `spoilt` has something wrong.
+fn of_real_files(
+    test: &str,
+    each: u64,
+    spoilt: usize,
+    make: impl Fn(Vec<u8>, &mut Random) -> Case,
+) {
     let real = real_files();
     if real.is_empty() {
         return;
     }
-    let times = real.len() as u64 * 10;
-    run("real_files_whole_and_spoilt", times, &[], |random| {
+    run(test, real.len() as u64 * each, &[], |random| {
         let mut file = real[random.below(real.len())].clone();
-        if random.once_in(2) {
+        if random.once_in(spoilt) {
             files::spoil(&mut file, random);
         }
+        make(file, random)
+    });
+}
+
+#[test]
+fn real_files_whole_and_spoilt() {
+    of_real_files("real_files_whole_and_spoilt", 10, 2, |file, random| {
         files::asked(file, 4, random)
+    });
+}
+
+#[test]
+fn real_files_edited() {
+    of_real_files("real_files_edited", 20, 8, |file, random| {
+        Case::Edits(lists::started(&file, 10, random))
     });
 }
 
@@ -62,16 +80,7 @@ fn real_values() {
 
 #[test]
 fn real_commands() {
-    let real = real_files();
-    if real.is_empty() {
-        return;
-    }
-    let times = real.len() as u64 * 100;
-    run("real_commands", times, &[], |random| {
-        let mut file = real[random.below(real.len())].clone();
-        if random.once_in(4) {
-            files::spoil(&mut file, random);
-        }
+    of_real_files("real_commands", 100, 4, |file, random| {
         Case::Expand(Box::new(expand::of_file(file, random)))
     });
 }
