@@ -99,6 +99,14 @@
  *  - An undo and a redo change no byte of the journal, and of the numbers only *file_len and *standing.
  *  - A file that shrinks has zeros up to its old length. Bytes behind both lengths stay as they were.
  *
+ *     static uint8_t file[KVELDRIM_FILE_BOUND], journal[KVELDRIM_JOURNAL_BOUND];
+ *     uint64_t file_len = fread(file, 1, sizeof file, stdin), used = 0, standing = 0, place;
+ *     uint32_t refused = kveldrim_set(file, sizeof file, &file_len, journal, sizeof journal, &used, &standing,
+ *                                     (const uint8_t *) "Desktop Entry", 13, (const uint8_t *) "Name", 4,
+ *                                     (const uint8_t *) "Read", 4, &place);
+ *     if (refused == 0)
+ *         refused = kveldrim_undo(file, sizeof file, &file_len, journal, sizeof journal, &used, &standing, &place);
+ *
  * Forms
  *
  * A group's name is one or more of the bytes 0x20 to 0x7E without [ and ]. A key is one or more of A-Z a-z 0-9 and -.

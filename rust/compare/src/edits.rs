@@ -74,6 +74,26 @@ pub fn proved(call: &Call, given: &Given) -> u32 {
 }
 
 impl Call {
+    /// A call without arguments: an undo or a redo.
+    pub fn step(kind: Kind) -> Call {
+        Call {
+            kind,
+            group: Vec::new(),
+            key: Vec::new(),
+            text: Vec::new(),
+        }
+    }
+
+    /// A set in the group Desktop Entry.
+    pub fn set(key: &str, text: &[u8]) -> Call {
+        Call {
+            kind: Kind::Set,
+            group: b"Desktop Entry".to_vec(),
+            key: key.into(),
+            text: text.to_vec(),
+        }
+    }
+
     pub fn name(&self) -> &'static str {
         match self.kind {
             Kind::Set => "set",

@@ -76,12 +76,7 @@ fn continued(start: State, most: usize, random: &mut Random) -> List {
 
 /// A call, with as many arguments as its kind takes.
 fn call(kind: Kind, group: &[u8], key: &[u8], random: &mut Random) -> Call {
-    let mut call = Call {
-        kind,
-        group: Vec::new(),
-        key: Vec::new(),
-        text: Vec::new(),
-    };
+    let mut call = Call::step(kind);
     if matches!(kind, Kind::Set | Kind::Remove) {
         (call.group, call.key) = (group.to_vec(), key.to_vec());
     }
@@ -294,27 +289,25 @@ pub fn near_journal_bound(random: &mut Random) -> Case {
     Case::Edits(list)
 }
 
-/// One call on a file with each size of a buffer, from nothing to `more` bytes over what the call needs, then an undo, a
-/// redo and one more undo.
-pub fn every_size(file: &[u8], call: &Call, more: usize, random: &mut Random) -> Vec<Case> {
+/// Calls on a file with each size of a buffer, from nothing to `more` bytes over what they need, then an undo, a redo and
+/// one more undo.
+pub fn every_size(file: &[u8], calls: &[Call], more: usize, random: &mut Random) -> Vec<Case> {
     let mut done = buffers(file, 1_000, 1_000, random);
-    let _ = call.on_state(&mut done);
-    let rest = [Kind::Undo, Kind::Redo, Kind::Undo].map(|kind| Call {
-        kind,
-        group: Vec::new(),
-        key: Vec::new(),
-        text: Vec::new(),
-    });
-    let calls: Vec<Call> = [call.clone()].into_iter().chain(rest).collect();
-    let grown = (done.file_len as usize).saturating_sub(file.len());
-    let journals = (0..=done.used as usize + more).map(|room| (grown + more, room));
-    let files = (0..=grown + more).map(|room| (room, done.used as usize));
+    let mut longest = file.len();
+    for call in calls {
+        let _ = call.on_state(&mut done);
+        longest = longest.max(done.file_len as usize);
+    }
+    let (grown, used) = (longest - file.len(), done.used as usize);
+    let steps = [Kind::Undo, Kind::Redo, Kind::Undo].map(Call::step);
+    let journals = (0..=used + more).map(|room| (grown + more, room));
+    let files = (0..=grown + more).map(|room| (room, used));
     journals
         .chain(files)
         .map(|(file_more, journal_room)| {
             Case::Edits(List {
                 start: buffers(file, file_more, journal_room, random),
-                calls: calls.clone(),
+                calls: [calls, &steps].concat(),
             })
         })
         .collect()

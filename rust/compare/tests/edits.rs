@@ -2,7 +2,7 @@
 //! a sound start, its book must agree. See `compare::run` for replaying.
 
 use compare::calls::{Asker, Case};
-use compare::edits::{Call, Kind};
+use compare::edits::{Call, Kind, List};
 use compare::random::Random;
 use compare::run::run;
 use compare::{files, lists};
@@ -112,9 +112,10 @@ fn buffers_of_every_size() {
                         key: key.into(),
                         text: text.into(),
                     };
-                    for case in lists::every_size(file, &call, 3, &mut random) {
-                        if let Err(difference) = case.compare(&mut asker) {
-                            panic!("{difference}\ninput: {}", case.words());
+                    let before = Call::set("Exec", b"x");
+                    for calls in [&[call.clone()][..], &[before, call]] {
+                        for case in lists::every_size(file, calls, 3, &mut random) {
+                            agrees(&case, &mut asker);
                         }
                     }
                 }
@@ -129,6 +130,74 @@ fn buffers_of_every_size() {
         ("remove", 13),
     ] {
         assert!(asker.tally.contains_key(&outcome), "{outcome:?}");
+    }
+}
+
+/// What the reference tells of each call from an empty journal on, once all agree on it.
+fn told(file: &[u8], rooms: (usize, usize), calls: Vec<Call>) -> Vec<u32> {
+    let mut random = Random::new(4);
+    let start = lists::buffers(file, rooms.0 - file.len(), rooms.1, &mut random);
+    let mut state = start.clone();
+    let told = calls.iter().map(|call| match call.on_state(&mut state) {
+        Ok(()) => 0,
+        Err(refusal) => refusal.number,
+    });
+    let told = told.collect();
+    agrees(&Case::Edits(List { start, calls }), &mut Asker::new(4));
+    told
+}
+
+fn agrees(case: &Case, asker: &mut Asker) {
+    if let Err(difference) = case.compare(asker) {
+        panic!("{difference}\ninput: {}", case.words());
+    }
+}
+
+/// Just 32,768 bytes of a file, and one more; the buffer as large, or larger.
+#[test]
+fn the_bound_of_a_file() {
+    let text = |length: usize| vec![b'v'; length];
+    let file = |length: usize| [b"[Desktop Entry]\nA=1\nL=", &text(length - 22)[..]].concat();
+    let undo = || Call::step(Kind::Undo);
+    let redo = || Call::step(Kind::Redo);
+    for room in [32_768, 32_769, 40_000] {
+        let calls = || {
+            let grown = Call::set("A", b"12");
+            vec![
+                Call::set("A", b"2"),
+                undo(),
+                grown,
+                redo(),
+                undo(),
+                Call::set("A", b""),
+            ]
+        };
+        let rooms = (room, 65_536);
+        assert_eq!(told(&file(32_768), rooms, calls()), [0, 0, 11, 0, 0, 0]);
+        assert_eq!(told(&file(32_767), rooms, calls()), [0, 0, 0, 12, 0, 0]);
+        let over = (room.max(32_769), 65_536);
+        assert_eq!(told(&file(32_769), over, calls()), [1; 6]);
+    }
+}
+
+/// Just 65,536 bytes of a journal, and one more; the buffer as large, or larger.
+#[test]
+fn the_bound_of_a_journal() {
+    let text = |length: usize| vec![b'v'; length];
+    let file = b"[Desktop Entry]\nA=\n";
+    // Three records: 18 + 20,000, then 18 + 20,000 + 1, then 18 + 1 and what is left.
+    let left = 65_536 - (20_018 + 20_019 + 19);
+    for room in [65_536, 65_537, 80_000] {
+        for (more, last) in [(0, 0), (1, 13)] {
+            let calls = vec![
+                Call::set("A", &text(20_000)),
+                Call::set("A", b"1"),
+                Call::set("A", &text(left + more)),
+                Call::step(Kind::Undo),
+                Call::step(Kind::Redo),
+            ];
+            assert_eq!(told(file, (32_768, room), calls), [0, 0, last, 0, 0]);
+        }
     }
 }
 
