@@ -70,8 +70,11 @@ fn is_noticed(editor: &dyn Fn(&Call, &Given) -> u32) -> bool {
     })
 }
 
+/// Something wrong that is done after a call.
+type Wrong = fn(&Given);
+
 /// The proved call, and then something wrong if the call was of this kind and told this.
-fn spoilt(kind: Kind, accepted: bool, wrong: fn(&Given)) -> impl Fn(&Call, &Given) -> u32 {
+fn spoilt(kind: Kind, accepted: bool, wrong: Wrong) -> impl Fn(&Call, &Given) -> u32 {
     move |call, given| {
         let told = proved(call, given);
         if call.kind == kind && (told == 0) == accepted {
@@ -91,7 +94,7 @@ fn the_proved_editor_is_right() {
 /// SAFETY of all: they write to what the comparison lent, and read where it has bytes.
 #[test]
 fn an_edit_that_writes_something_wrong() {
-    let wrongs: [(&str, fn(&Given)); 9] = [
+    let wrongs: [(&str, Wrong); 9] = [
         ("the file's length", |given| unsafe { *given.file_len ^= 1 }),
         ("used", |given| unsafe { *given.used ^= 1 }),
         ("standing", |given| unsafe { *given.standing ^= 2 }),
