@@ -28,7 +28,7 @@ use Rattle.journal.specs.Journal.{journalMost, editRecord, editLength}
 use Rattle.journal.proofs.Records.{Small, edit-length, AllSmall, recorded, lengths, recorded-length, journal-back, lengths-reverse, recorded-parts, recorded-more}
 use Rattle.edit.specs.Calls.{State, content, lengthsFit, opened, fileFits, recordFits, request, replayed, undo, redo, atExit}
 use Rattle.demands.specs.Book.{Call, Do, Undo, Redo, Book, fileAfter, recordsAfter, bookFile, bookStanding, withLists, bookRequest, bookCall}
-use Rattle.demands.specs.Demand3.{stateCall, Told, told, toldOver, leftBy, startState, startBook, Demand3, Chain, no-call, one-call, Demand3OfChains}
+use Rattle.demands.specs.Demand3.{stateCall, told, toldOver, leftBy, startState, startBook, Demand3}
 use Rattle.demands.proofs.FileLaws.{checks}
 use Rattle.demands.proofs.EditLaws.{fits-most, requested}
 
@@ -330,24 +330,3 @@ demand3 start rest journal calls h =
     let a = agrees calls (startState start rest journal) (startBook start (length (start ++ rest)) (length journal)) (start-rep start rest journal h) in
     let r = a .rep-after in
     (a .tells-all, r .text, r .standing ∙ sym (past-lengths _ _ _ _ (r .stood)))
-
--- ---- chains of calls that meet their contracts
-
--- they tell what the definitions tell, and leave what these leave
-record Follows (s : State) (cs : List Call) (xs : List Told) (u : State) : Type 0 where
-  pub told-is : xs ≡ toldOver stateCall s cs
-  pub left-is : u ≡ leftBy stateCall s cs
-
-follows : {s : State} {cs : List Call} {xs : List Told} {u : State} → Chain s cs xs u → Follows s cs xs u
-unfolding toldOver leftBy
-follows no-call = record { told-is = refl; left-is = refl }
-follows (one-call {c = c} e f h) =
-    let w = follows h in
-    record { told-is = rw (e, ← f, w .told-is); left-is = rw (← f) (w .left-is) }
-
-pub demand3-chain : Demand3OfChains
-unfolding Demand3OfChains Demand3
-demand3-chain start rest journal calls tolds s h k =
-    let w = follows k in
-    let d = demand3 start rest journal calls h in
-    (w .told-is ∙ d .0, ap content (w .left-is) ∙ d .1, ap (λ (t : State). t .standing) (w .left-is) ∙ d .2)

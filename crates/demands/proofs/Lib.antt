@@ -3,5 +3,6 @@ pub mod FileLaws
 pub mod EditLaws
 pub mod BookLaws
 pub mod Agreement
+pub mod ContractLaws
 pub mod ExampleTable
 pub mod CommandLaws

@@ -53,19 +53,3 @@ Demand3 = (start rest journal : List ℕ) (calls : List Call) → wellFormed sta
     (toldOver stateCall s calls ≡ toldOver bookCall b calls)
     × (content (leftBy stateCall s calls) ≡ bookFile (leftBy bookCall b calls))
     × (leftBy stateCall s calls .standing ≡ bookStanding (leftBy bookCall b calls))
-
--- Calls in turn on the same buffers: what is lent at first, the calls, what each told, and what is lent at last. A step asks what the contracts
--- of the four functions promise: what the call tells, and what is lent as it returns.
-pub data Chain : State → List Call → List Told → State → Type 0 where
-  no-call : {s : State} → Chain s [] [] s
-  one-call : {s t u : State} {c : Call} {cs : List Call} {x : Told} {xs : List Told}
-      → x ≡ told (stateCall s c) → t ≡ atExit s (stateCall s c) → Chain t cs xs u → Chain s (c ∷ cs) (x ∷ xs) u
-
--- the same of every chain of calls that meet their contracts
-unfoldable pub Demand3OfChains : Type 0
-Demand3OfChains = (start rest journal : List ℕ) (calls : List Call) (tolds : List Told) (s : State) → wellFormed start ≡ true
-    → Chain (startState start rest journal) calls tolds s →
-    let b : Book = startBook start (length (start ++ rest)) (length journal) in
-    (tolds ≡ toldOver bookCall b calls)
-    × (content s ≡ bookFile (leftBy bookCall b calls))
-    × (s .standing ≡ bookStanding (leftBy bookCall b calls))

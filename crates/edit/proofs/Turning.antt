@@ -24,7 +24,9 @@ use Rattle.journal.specs.Journal.{Journal, editLength, readJournal, nextOf}
 use Rattle.journal.specs.Walk.{latest, waiting}
 use Rattle.journal.proofs.Walking.{named}
 use Rattle.edit.specs.Calls.{State, content, lengthsFit, opened, fileFits, replayed, undo, redo, atExit}
-use Rattle.edit.specs.Step.{Numbers, told, readied, replayedIn, numbers, became}
+use Rattle.edit.specs.Step.{answered, told, readied, replayedIn, numbers, became, Made}
+use Rattle.edit.specs.declared.Edited.{Edited}
+use Rattle.edit.specs.declared.Edited.the-variants as edited
 
 -- ---- the edit is made, with numbers
 
@@ -84,56 +86,6 @@ module _ (s : State) (e : Edit) (standing : ℕ) where
       go (given f) = refl
       go (refused f) = refl
 
--- ---- a call by its steps
-
--- A call asks whether what is lent is in order, then for an edit; it makes that edit or the same turned round, with another standing number.
-pub record Steps (s : State) (from : Answer Edit) (turn : Edit → Edit) (number : Edit → ℕ) (call : Answer State) : Type 0 where
-  pub is : call ≡ (readied s >>= λ _. from >>= λ e. replayed s (turn e) (number e))
-
--- the first of some of the journal's edits
-abbrev asked : State → (Journal → List Edit) → Answer Edit
-asked s which = some-or (readJournal (take (s .used) (s .journal)) (s .standing)) Damaged >>= λ j. some-or (nextOf (which j)) NothingLeft
-
-steps : (s : State) (which : Journal → List Edit) (make : Edit → Answer State)
-    → (opened s >>= λ j. some-or (nextOf (which j)) NothingLeft >>= make) ≡ (readied s >>= λ _. asked s which >>= make)
-unfolding opened readied
-steps s which make = by (lengthsFit s) (check (content s)) (readJournal (take (s .used) (s .journal)) (s .standing))
-  where
-    by : (t : Bool) (a : Answer (Unit {0})) (o : Option Journal)
-        → ((need t Damaged >>= λ _. a >>= λ _. some-or o Damaged) >>= λ j. some-or (nextOf (which j)) NothingLeft >>= make)
-        ≡ ((need t Damaged >>= λ _. a) >>= λ _. (some-or o Damaged >>= λ j. some-or (nextOf (which j)) NothingLeft) >>= make)
-    by true (given tt) (some j) = refl
-    by true (given tt) none = refl
-    by true (refused f) o = refl
-    by false a o = refl
-
-pub undo-steps : (s : State) → Steps s (latest (take (s .used) (s .journal)) (s .standing)) turned (λ e. s .standing - editLength e) (undo s)
-unfolding undo
-undo-steps s = record { is = steps s (λ j. j .stand) (λ e. replayed s (turned e) (s .standing - editLength e)) }
-
-pub redo-steps : (s : State) → Steps s (waiting (take (s .used) (s .journal)) (s .standing)) (λ e. e) (λ e. s .standing + editLength e) (redo s)
-unfolding redo
-redo-steps s = record { is = steps s (λ j. j .wait) (λ e. replayed s e (s .standing + editLength e)) }
-
--- what is told of the call, and what it leaves of the file's buffer
-module _ {s : State} {from : Answer Edit} {turn : Edit → Edit} {number : Edit → ℕ} {call : Answer State} (w : Steps s from turn number call) where
-  pub told-unready : {f : Fault} → refused f ≡ readied s → (refused f ≡ told call) × (s .file ≡ atExit s call .file)
-  told-unready e = rw (w .is, ← e) (refl, refl)
-
-  module _ (r : given tt ≡ readied s) where
-    pub told-unread : {f : Fault} → refused f ≡ from → (refused f ≡ told call) × (s .file ≡ atExit s call .file)
-    told-unread g = rw (w .is, ← r, ← g) (refl, refl)
-
-    pub told-made : {e : Edit} {n : ℕ} {x : Answer Numbers} {file : List ℕ} → given e ≡ from → number e ≡ n
-        → x ≡ then (numbers (s .used) n) (replayedIn (length (s .file)) (content s) (turn e))
-        → file ≡ became (s .file) (s .size) (replayedIn (length (s .file)) (content s) (turn e))
-        → (x ≡ told call) × (file ≡ atExit s call .file)
-    told-made {e} {n} g k p q = rw (w .is, ← r, ← g, k) (p ∙ sym (replayed-told s (turn e) n), q ∙ sym (replayed-file s (turn e) n))
-
--- the length of a record, by where its old and its new bytes start and where it ends
-pub edit-length : (u : List ℕ) (place old new end : ℕ) → old ≤ new → new ≤ end → end ≤ length u → editLength (named u place old new end) + old ≡ 18 + end
-edit-length u place old new end h k l = omega (arith, length-part old new u (omega arith), length-part new end u (omega arith))
-
 -- ---- the journal stays as it is
 
 replayed-journal : (s : State) (e : Edit) (n : ℕ) → atExit s (replayed s e n) .journal ≡ s .journal
@@ -161,10 +113,66 @@ turned-journal s (given j) pick turn n = go (pick j)
     go none = refl
     go (some e) = replayed-journal s (turn e) (n e)
 
-pub undo-journal : (s : State) → s .journal ≡ atExit s (undo s) .journal
+undo-journal : (s : State) → s .journal ≡ atExit s (undo s) .journal
 unfolding undo
 undo-journal s = sym (turned-journal s (opened s) (λ j. nextOf (j .stand)) turned (λ e. s .standing - editLength e))
 
-pub redo-journal : (s : State) → s .journal ≡ atExit s (redo s) .journal
+redo-journal : (s : State) → s .journal ≡ atExit s (redo s) .journal
 unfolding redo
 redo-journal s = sym (turned-journal s (opened s) (λ j. nextOf (j .wait)) (λ e. e) (λ e. s .standing + editLength e))
+
+-- ---- a call by its steps
+
+-- A call asks whether what is lent is in order, then for an edit; it makes that edit or the same turned round, with another standing number.
+pub record Steps (s : State) (from : Answer Edit) (turn : Edit → Edit) (number : Edit → ℕ) (call : Answer State) : Type 0 where
+  pub is : call ≡ (readied s >>= λ _. from >>= λ e. replayed s (turn e) (number e))
+  pub keeps : s .journal ≡ atExit s call .journal
+
+-- the first of some of the journal's edits
+abbrev asked : State → (Journal → List Edit) → Answer Edit
+asked s which = some-or (readJournal (take (s .used) (s .journal)) (s .standing)) Damaged >>= λ j. some-or (nextOf (which j)) NothingLeft
+
+steps : (s : State) (which : Journal → List Edit) (make : Edit → Answer State)
+    → (opened s >>= λ j. some-or (nextOf (which j)) NothingLeft >>= make) ≡ (readied s >>= λ _. asked s which >>= make)
+unfolding opened readied
+steps s which make = by (lengthsFit s) (check (content s)) (readJournal (take (s .used) (s .journal)) (s .standing))
+  where
+    by : (t : Bool) (a : Answer (Unit {0})) (o : Option Journal)
+        → ((need t Damaged >>= λ _. a >>= λ _. some-or o Damaged) >>= λ j. some-or (nextOf (which j)) NothingLeft >>= make)
+        ≡ ((need t Damaged >>= λ _. a) >>= λ _. (some-or o Damaged >>= λ j. some-or (nextOf (which j)) NothingLeft) >>= make)
+    by true (given tt) (some j) = refl
+    by true (given tt) none = refl
+    by true (refused f) o = refl
+    by false a o = refl
+
+pub undo-steps : (s : State) → Steps s (latest (take (s .used) (s .journal)) (s .standing)) turned (λ e. s .standing - editLength e) (undo s)
+unfolding undo
+undo-steps s = record { is = steps s (λ j. j .stand) (λ e. replayed s (turned e) (s .standing - editLength e)); keeps = undo-journal s }
+
+pub redo-steps : (s : State) → Steps s (waiting (take (s .used) (s .journal)) (s .standing)) (λ e. e) (λ e. s .standing + editLength e) (redo s)
+unfolding redo
+redo-steps s = record { is = steps s (λ j. j .wait) (λ e. replayed s e (s .standing + editLength e)); keeps = redo-journal s }
+
+-- what the call answers and leaves
+module _ {s : State} {from : Answer Edit} {turn : Edit → Edit} {number : Edit → ℕ} {call : Answer State} (w : Steps s from turn number call) where
+  refused-so : {f : Fault} → call ≡ refused f → Made s call (edited.Refused f) (s .file) (s .journal)
+  refused-so e = record { answer = rw e; file-is = rw e; journal-is = w .keeps }
+
+  pub made-unready : {f : Fault} → refused f ≡ readied s → Made s call (edited.Refused f) (s .file) (s .journal)
+  made-unready e = refused-so (w .is ∙ rw (← e))
+
+  module _ (r : given tt ≡ readied s) where
+    pub made-unread : {f : Fault} → refused f ≡ from → Made s call (edited.Refused f) (s .file) (s .journal)
+    made-unread g = refused-so (w .is ∙ rw (← r, ← g))
+
+    pub made-again : {e : Edit} {n : ℕ} {x : Edited} {file : List ℕ} → given e ≡ from → number e ≡ n
+        → answered x ≡ then (numbers (s .used) n) (replayedIn (length (s .file)) (content s) (turn e))
+        → file ≡ became (s .file) (s .size) (replayedIn (length (s .file)) (content s) (turn e))
+        → Made s call x file (s .journal)
+    made-again {e} {n} g k p q =
+        let i : call ≡ replayed s (turn e) n = w .is ∙ rw (← r, ← g, k) in
+        record { answer = p ∙ sym (rw i (replayed-told s (turn e) n)); file-is = q ∙ sym (rw i (replayed-file s (turn e) n)); journal-is = w .keeps }
+
+-- the length of a record, by where its old and its new bytes start and where it ends
+pub edit-length : (u : List ℕ) (place old new end : ℕ) → old ≤ new → new ≤ end → end ≤ length u → editLength (named u place old new end) + old ≡ 18 + end
+edit-length u place old new end h k l = omega (arith, length-part old new u (omega arith), length-part new end u (omega arith))

@@ -316,8 +316,9 @@ fn again(
 // Undo: the latest edit that stands is taken back, and its record no longer stands. Refusals: 14 for the numbers, 1 to 6, 14 for the journal,
 // 12 if nothing stands, and those of the edit.
 pub fn undo(file: &mut [u8], size: usize, journal: &[u8], used: usize, standing: usize) -> Edited
-    ensures answer { λ r. ⌜ step.answered r ≡ step.told (calls.undo (step.lent (now (file .entry)) size (now (journal .entry)) used standing)) ⌝ }
-    ensures file { λ _. ⌜ now (file .exit) ≡ calls.atExit (step.lent (now (file .entry)) size (now (journal .entry)) used standing) (calls.undo (step.lent (now (file .entry)) size (now (journal .entry)) used standing)) .file ⌝ }
+    ensures { λ r. ⌜ step.Made (step.lent (now (file .entry)) size (now (journal .entry)) used standing)
+        (calls.undo (step.lent (now (file .entry)) size (now (journal .entry)) used standing))
+        r (now (file .exit)) (now (journal .exit)) ⌝ }
 {
     match ready(file, size, journal, used, standing) {
         Checked::Refused(f) => Edited::Refused(f),
@@ -343,8 +344,9 @@ pub fn undo(file: &mut [u8], size: usize, journal: &[u8], used: usize, standing:
 
 // Redo: the next edit that waits is made again, and its record stands. The same refusals, 12 if nothing waits.
 pub fn redo(file: &mut [u8], size: usize, journal: &[u8], used: usize, standing: usize) -> Edited
-    ensures answer { λ r. ⌜ step.answered r ≡ step.told (calls.redo (step.lent (now (file .entry)) size (now (journal .entry)) used standing)) ⌝ }
-    ensures file { λ _. ⌜ now (file .exit) ≡ calls.atExit (step.lent (now (file .entry)) size (now (journal .entry)) used standing) (calls.redo (step.lent (now (file .entry)) size (now (journal .entry)) used standing)) .file ⌝ }
+    ensures { λ r. ⌜ step.Made (step.lent (now (file .entry)) size (now (journal .entry)) used standing)
+        (calls.redo (step.lent (now (file .entry)) size (now (journal .entry)) used standing))
+        r (now (file .exit)) (now (journal .exit)) ⌝ }
 {
     match ready(file, size, journal, used, standing) {
         Checked::Refused(f) => Edited::Refused(f),

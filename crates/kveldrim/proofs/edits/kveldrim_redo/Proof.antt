@@ -1,7 +1,6 @@
 -- `kveldrim_redo` meets its contract: it is the call. Assumes nothing.
 use Rattle.edit.specs.Calls.{redo}
 use Rattle.edit.specs.Step.{lent}
-use Rattle.edit.proofs.Turning.{redo-journal}
 use Rattle.kveldrim.proofs.Editing.{called}
 use borrow.Author.Needs.{needs}
 use Rattle.kveldrim.proofs.edits.kveldrim_redo.Statement.{statement}
@@ -11,8 +10,7 @@ returns : tie.Need-returns
 returns c =
     let a = c .before .before .before .before .before .before .before .before .before .before .before .before .before .before .before .args in
     let s = lent (a .file .now) (a .size .now) (a .journal .now) (a .used .now) (a .standing .now) in
-    let e = c .before .before .before .before .before .before .before .redo .ensures in
-    called s (redo s) {e = c .before .before .before .before .before .before .before .redo .result} (record { answer = e .0; file-is = e .1; journal-is = redo-journal s }) (c .tell-edited .ensures)
+    called s (redo s) (c .before .before .before .before .before .before .before .redo .ensures) (c .tell-edited .ensures)
 
 pub kveldrim-redo-spec : {M : Type 1} → statement M
 kveldrim-redo-spec =

@@ -1,7 +1,6 @@
 -- `kveldrim_undo` meets its contract: it is the call. Assumes nothing.
 use Rattle.edit.specs.Calls.{undo}
 use Rattle.edit.specs.Step.{lent}
-use Rattle.edit.proofs.Turning.{undo-journal}
 use Rattle.kveldrim.proofs.Editing.{called}
 use borrow.Author.Needs.{needs}
 use Rattle.kveldrim.proofs.edits.kveldrim_undo.Statement.{statement}
@@ -11,8 +10,7 @@ returns : tie.Need-returns
 returns c =
     let a = c .before .before .before .before .before .before .before .before .before .before .before .before .before .before .before .args in
     let s = lent (a .file .now) (a .size .now) (a .journal .now) (a .used .now) (a .standing .now) in
-    let e = c .before .before .before .before .before .before .before .undo .ensures in
-    called s (undo s) {e = c .before .before .before .before .before .before .before .undo .result} (record { answer = e .0; file-is = e .1; journal-is = undo-journal s }) (c .tell-edited .ensures)
+    called s (undo s) (c .before .before .before .before .before .before .before .undo .ensures) (c .tell-edited .ensures)
 
 pub kveldrim-undo-spec : {M : Type 1} → statement M
 kveldrim-undo-spec =

@@ -1,0 +1,111 @@
+-- Calls that met their contracts tell what the definitions tell and leave what these leave, so demand 3 holds of them. Assumes nothing.
+use mathlib.Core.Path.{_≡_, refl, sym, ap, _∙_}
+use Prim.Native.Nat.{ℕ}
+use mathlib.Core.List.{List}
+use Rattle.base.proofs.Tests.{no}
+use Rattle.fault.specs.declared.Fault.{Fault}
+use Rattle.fault.specs.declared.Fault.the-variants.{TooLong, BadLine, FirstGroup, RepeatedGroup, RepeatedKey, NoPlainKey, BadArgument, Missing, BadEscape, UnfitText, NoRoom, NothingLeft, JournalFull, Damaged, BadExec, BadCode, PostfixesRemain, Incomplete}
+use Rattle.fault.specs.Table.{numberOf, placeOf}
+use Rattle.fault.specs.Answer.{Answer, given, refused}
+use Rattle.edit.specs.Calls.{State, content, atExit}
+use Rattle.edit.specs.Step as step
+use Rattle.edit.specs.Step.{lent, Made, answered, Numbers}
+use Rattle.edit.specs.declared.Edited.{Edited}
+use Rattle.edit.specs.declared.Edited.the-variants as edited
+use Rattle.kveldrim.specs.Abi.{Called, codeOf, placeIn}
+use Rattle.demands.specs.Book.{Call}
+use Rattle.demands.specs.Demand3.{stateCall, Told, Refused, told, toldOver, leftBy, Demand3}
+use Rattle.demands.specs.Contracts.{Chain, no-call, one-call, Demand3Of, toldBy, after, ByContract, made, toldIn, ByExport, called, Demand3OfContracts, Demand3OfExports}
+use Rattle.demands.proofs.Agreement.{demand3}
+
+-- ---- chains of calls that do as the definitions say
+
+-- a call that told and left what the definitions say
+record Defined (s : State) (c : Call) (x : Told) (t : State) : Type 0 where
+  tells : x ≡ told (stateCall s c)
+  leaves : t ≡ atExit s (stateCall s c)
+
+-- calls that did so
+record Follows (s : State) (cs : List Call) (xs : List Told) (u : State) : Type 0 where
+  told-is : xs ≡ toldOver stateCall s cs
+  left-is : u ≡ leftBy stateCall s cs
+
+module _ (step : State → Call → Told → State → Type 0) (defined : (s : State) (c : Call) (x : Told) (t : State) → step s c x t → Defined s c x t) where
+  follows : {s : State} {cs : List Call} {xs : List Told} {u : State} → Chain step s cs xs u → Follows s cs xs u
+  unfolding toldOver leftBy
+  follows no-call = record { told-is = refl; left-is = refl }
+  follows (one-call {s} {t} {c = c} {x = x} d h) =
+      let w = follows h in
+      let e = defined s c x t d in
+      record { told-is = rw (e .tells, ← (e .leaves), w .told-is); left-is = rw (← (e .leaves)) (w .left-is) }
+
+  demand3-of : Demand3Of step
+  unfolding Demand3
+  demand3-of start rest journal calls tolds s h k =
+      let w = follows k in
+      let d = demand3 start rest journal calls h in
+      (w .told-is ∙ d .0, ap content (w .left-is) ∙ d .1, ap (λ (t : State). t .standing) (w .left-is) ∙ d .2)
+
+-- ---- the functions of `edit`
+
+tells : (a : Answer State) (r : Edited) → answered r ≡ step.told a → toldBy r ≡ told a
+tells (given s) (edited.Done x y z) e = refl
+tells (given s) (edited.Refused f) e = no (cc)
+tells (refused f) (edited.Done x y z) e = no (cc)
+tells (refused f) (edited.Refused g) e = let h : g ≡ f = cc in rw h
+
+leaves : (s : State) (a : Answer State) (r : Edited) (file journal : List ℕ) → Made s a r file journal → after s r file journal ≡ atExit s a
+leaves s (given t) (edited.Done x y z) file journal m =
+    let h = m .answer in
+    let a : Numbers = record { size = x; used = y; standing = z } in
+    let b : Numbers = record { size = t .size; used = t .used; standing = t .standing } in
+    let n : a ≡ b = cc in
+    λ i. record { file = m .file-is i; size = n i .size; journal = m .journal-is i; used = n i .used; standing = n i .standing }
+leaves s (given t) (edited.Refused f) file journal m = let h = m .answer in no (cc)
+leaves s (refused f) (edited.Done x y z) file journal m = let h = m .answer in no (cc)
+leaves s (refused f) (edited.Refused g) file journal m = rw (m .file-is, m .journal-is)
+
+pub demand3-of-contracts : Demand3OfContracts
+unfolding Demand3OfContracts
+demand3-of-contracts = demand3-of ByContract defined
+  where
+    defined : (s : State) (c : Call) (x : Told) (t : State) → ByContract s c x t → Defined s c x t
+    defined _ _ _ _ (made {s} {c} {r} {file} {journal} m) = record { tells = tells (stateCall s c) r (m .answer); leaves = leaves s (stateCall s c) r file journal m }
+
+-- ---- the exported functions
+
+-- no refusal's number is 0
+refused-in : (f : Fault) → toldIn (numberOf f) (placeOf f) ≡ Refused (numberOf f) (placeOf f)
+refused-in TooLong = refl
+refused-in (BadLine line byte) = refl
+refused-in (FirstGroup line) = refl
+refused-in (RepeatedGroup line) = refl
+refused-in (RepeatedKey line) = refl
+refused-in (NoPlainKey line) = refl
+refused-in BadArgument = refl
+refused-in Missing = refl
+refused-in (BadEscape at) = refl
+refused-in UnfitText = refl
+refused-in NoRoom = refl
+refused-in NothingLeft = refl
+refused-in JournalFull = refl
+refused-in Damaged = refl
+refused-in (BadExec at) = refl
+refused-in (BadCode at) = refl
+refused-in PostfixesRemain = refl
+refused-in (Incomplete line) = refl
+
+told-in : (a : Answer State) → toldIn (codeOf a) (placeIn a) ≡ told a
+told-in (given t) = refl
+told-in (refused f) = refused-in f
+
+pub demand3-of-exports : Demand3OfExports
+unfolding Demand3OfExports
+demand3-of-exports = demand3-of ByExport defined
+  where
+    defined : (s : State) (c : Call) (x : Told) (t : State) → ByExport s c x t → Defined s c x t
+    defined _ _ _ _ (called {s} {c} m) =
+        record {
+          tells = rw (m .code-is, m .place-is) (told-in (stateCall s c));
+          leaves = λ i. record { file = m .file-is i; size = m .size-is i; journal = m .journal-is i; used = m .used-is i; standing = m .standing-is i };
+        }

@@ -1,0 +1,63 @@
+-- Demand 3 of calls that met their contracts: those of the functions of `edit`, and those of the functions that a C program calls.
+-- Assumes nothing.
+use mathlib.Core.Path.{_≡_}
+use Prim.Native.Nat.{ℕ, zero, suc}
+use mathlib.Core.Bool.{true}
+use mathlib.Core.List.{List, [], _∷_, _++_}
+use lib.ListN.{length}
+use Rattle.fault.specs.Table.{numberOf, placeOf}
+use Rattle.wellformed.specs.WellFormed.{wellFormed}
+use Rattle.edit.specs.Calls.{State, content}
+use Rattle.edit.specs.Step.{lent, Made}
+use Rattle.edit.specs.declared.Edited.{Edited}
+use Rattle.edit.specs.declared.Edited.the-variants as edited
+use Rattle.kveldrim.specs.Abi.{Called}
+use Rattle.demands.specs.Book.{Call, Book, bookFile, bookStanding, bookCall}
+use Rattle.demands.specs.Demand3.{stateCall, Told, Accepted, Refused, toldOver, leftBy, startState, startBook}
+
+-- Calls in turn on the same buffers: what is lent at first, the calls, what each told, and what is lent at last. `step s c x t` says that the
+-- call c, lent s, told x and left t.
+pub data Chain (step : State → Call → Told → State → Type 0) : State → List Call → List Told → State → Type 0 where
+  no-call : {s : State} → Chain step s [] [] s
+  one-call : {s t u : State} {c : Call} {cs : List Call} {x : Told} {xs : List Told} → step s c x t → Chain step t cs xs u → Chain step s (c ∷ cs) (x ∷ xs) u
+
+-- demand 3 of every chain of such calls, from any well-formed file and an empty journal
+abbrev pub Demand3Of : (State → Call → Told → State → Type 0) → Type 0
+Demand3Of step = (start rest journal : List ℕ) (calls : List Call) (tolds : List Told) (s : State) → wellFormed start ≡ true
+    → Chain step (startState start rest journal) calls tolds s →
+    let b : Book = startBook start (length (start ++ rest)) (length journal) in
+    (tolds ≡ toldOver bookCall b calls)
+    × (content s ≡ bookFile (leftBy bookCall b calls))
+    × (s .standing ≡ bookStanding (leftBy bookCall b calls))
+
+-- what an answer tells
+abbrev pub toldBy : Edited → Told
+toldBy (edited.Done size used standing) = Accepted
+toldBy (edited.Refused f) = Refused (numberOf f) (placeOf f)
+
+-- what is lent to the next call: both buffers, and the answer's numbers, or the old ones where it was refused
+abbrev pub after : State → Edited → List ℕ → List ℕ → State
+after s (edited.Done size used standing) file journal = lent file size journal used standing
+after s (edited.Refused f) file journal = lent file (s .size) journal (s .used) (s .standing)
+
+-- a call that answered r and left these buffers, as the contracts of set, remove, undo and redo promise
+pub data ByContract : State → Call → Told → State → Type 0 where
+  made : {s : State} {c : Call} {r : Edited} {file journal : List ℕ} → Made s (stateCall s c) r file journal → ByContract s c (toldBy r) (after s r file journal)
+
+-- what a C program is told: 0 is accepted
+abbrev pub toldIn : ℕ → ℕ → Told
+toldIn zero place = Accepted
+toldIn (suc code) place = Refused (suc code) place
+
+-- a call that returned this code and left these numbers and buffers, as the contracts of the exported functions promise
+pub data ByExport : State → Call → Told → State → Type 0 where
+  called : {s : State} {c : Call} {code place size used standing : ℕ} {file journal : List ℕ}
+      → Called s (stateCall s c) code place size used standing file journal → ByExport s c (toldIn code place) (lent file size journal used standing)
+
+-- demand 3 of calls of set, remove, undo and redo
+unfoldable pub Demand3OfContracts : Type 0
+Demand3OfContracts = Demand3Of ByContract
+
+-- demand 3 of calls of kveldrim_set, kveldrim_remove, kveldrim_undo and kveldrim_redo
+unfoldable pub Demand3OfExports : Type 0
+Demand3OfExports = Demand3Of ByExport
