@@ -1,5 +1,5 @@
 -- Calls that met their contracts tell what the definitions tell and leave what these leave, so demand 3 holds of them. Assumes nothing.
-use mathlib.Core.Path.{_≡_, refl, sym, ap, _∙_}
+use mathlib.Core.Path.{_≡_, refl, ap, _∙_}
 use Prim.Native.Nat.{ℕ}
 use mathlib.Core.List.{List}
 use Rattle.base.proofs.Tests.{no}
@@ -9,10 +9,10 @@ use Rattle.fault.specs.Table.{numberOf, placeOf}
 use Rattle.fault.specs.Answer.{Answer, given, refused}
 use Rattle.edit.specs.Calls.{State, content, atExit}
 use Rattle.edit.specs.Step as step
-use Rattle.edit.specs.Step.{lent, Made, answered, Numbers}
+use Rattle.edit.specs.Step.{Made, answered, Numbers}
 use Rattle.edit.specs.declared.Edited.{Edited}
 use Rattle.edit.specs.declared.Edited.the-variants as edited
-use Rattle.kveldrim.specs.Abi.{Called, codeOf, placeIn}
+use Rattle.kveldrim.specs.Abi.{codeOf, placeIn}
 use Rattle.demands.specs.Book.{Call}
 use Rattle.demands.specs.Demand3.{stateCall, Told, Refused, told, toldOver, leftBy, Demand3}
 use Rattle.demands.specs.Contracts.{Chain, no-call, one-call, Demand3Of, toldBy, after, ByContract, made, toldIn, ByExport, called, Demand3OfContracts, Demand3OfExports}

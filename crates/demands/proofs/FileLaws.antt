@@ -11,7 +11,7 @@ use Rattle.base.specs.Choice.{pick, maybe, there}
 use Rattle.base.specs.Lists.{span, all, any, first}
 use Rattle.base.proofs.Tests.{no, and-both, or-both}
 use Rattle.fault.specs.declared.Fault.the-variants.{BadArgument, Missing}
-use Rattle.fault.specs.Answer.{Answer, given, refused, _>>=_, need, some-or}
+use Rattle.fault.specs.Answer.{Answer, given, refused, _>>=_, need, some-or, accepted}
 use Rattle.fault.proofs.Answers.{accepted-given}
 use Rattle.text.specs.Class.{keyByte}
 use Rattle.line.specs.Line.{isBad}
@@ -98,6 +98,10 @@ missing : (o : Option Row) → ((some-or o Missing >>= λ r. given (valueEnds r)
 missing none = (λ e. refl, λ e. refl)
 missing (some r) = (λ e. no (cc), λ e. no (cc))
 
+present : (o : Option Row) → there o ≡ true → accepted (some-or o Missing >>= λ r. given (valueEnds r)) ≡ true
+present (some r) e = refl
+present none e = absurd (false≢true e)
+
 pub lookup-is : (file group key : List ℕ) → wellFormed file ≡ true → (groupForm group && keyForm key) ≡ true
     → lookup file group key ≡ (some-or (findRow (readRows file) (Key group key)) Missing >>= λ r. given (valueEnds r))
 unfolding lookup
@@ -112,9 +116,9 @@ choose-is file group key locale w f =
 pub lookup-misses : LookupMisses
 unfolding LookupMisses
 lookup-misses file group key w f =
-    let m = missing (findRow (readRows file) (Key group key)) in
+    let o = findRow (readRows file) (Key group key) in
     let i = lookup-is file group key w f in
-    (λ e. m .0 (sym i ∙ e), λ e. i ∙ m .1 e)
+    (λ e. rw i (present o e), λ e. i ∙ missing o .1 e)
 
 -- where the plain key is absent, so is each candidate
 none-there : (file group key : List ℕ) (ls : List (List ℕ)) → wellFormed file ≡ true → plainForm key ≡ true → has (readRows file) (Key group key) ≡ false

@@ -5,4 +5,7 @@ pub mod BookLaws
 pub mod Agreement
 pub mod ContractLaws
 pub mod ExampleTable
+pub mod Expansions
+pub mod Frames
+pub mod Lengths
 pub mod CommandLaws

@@ -1,13 +1,12 @@
 -- Text set is the text read back, as far as raw values go. Assumes nothing.
-use mathlib.Core.Path.{_≡_, refl, sym, ap, _∙_}
+use mathlib.Core.Path.{_≡_, refl}
 use Prim.Native.Nat.{ℕ}
 use mathlib.Core.Bool.{true}
-use mathlib.Core.Bool.{Bool, false, not}
+use mathlib.Core.Bool.{Bool, false}
 use mathlib.Core.List.{List}
-use Rattle.base.specs.Choice.{there}
 use Rattle.base.proofs.Tests.{no}
 use Rattle.fault.specs.declared.Fault.the-variants.{UnfitText}
-use Rattle.fault.specs.Answer.{given, refused, _>>=_, need}
+use Rattle.fault.specs.Answer.{given, _>>=_, need}
 use Rattle.text.specs.Escape.{writeText, rawText, fitText}
 use Rattle.text.proofs.ReadBack.{read-back}
 use Rattle.text.proofs.Values.{raw-text, raw-front}

@@ -1,23 +1,23 @@
 -- What holds of checking, lookup and choice together (demands 1 and 2). Assumes nothing.
 use mathlib.Core.Path.{_≡_}
 use Prim.Native.Nat.{ℕ}
-use mathlib.Core.Bool.{Bool, true, false, _&&_}
+use mathlib.Core.Bool.{true, false, _&&_}
 use mathlib.Core.Option.{none, some}
 use mathlib.Core.List.{List, [], _∷_, _++_, map}
 use Rattle.fault.specs.declared.Fault.the-variants.{Missing}
-use Rattle.fault.specs.Answer.{Answer, given, refused}
+use Rattle.fault.specs.Answer.{given, refused, accepted}
 use Rattle.line.specs.Form.{groupForm, keyForm, plainForm, localeForm}
 use Rattle.rows.specs.Rows.{Row, readRows}
 use Rattle.rows.specs.Title.{Key, findRow, has}
 use Rattle.wellformed.specs.WellFormed.{wellFormed}
 use Rattle.choice.specs.Locale.{candidates, postfixed, firstKey}
-use Rattle.entry.specs.Lookup.{Extent, valueEnds, lookup}
+use Rattle.entry.specs.Lookup.{valueEnds, lookup}
 use Rattle.entry.specs.Choose.{choose}
 
--- lookup in a well-formed file, with arguments of the form, is refused exactly if the name is absent, and then with 8
+-- lookup in a well-formed file, with arguments of the form: a name that is there is accepted, and one that is not is refused with 8
 unfoldable pub LookupMisses : Type 0
 LookupMisses = (file group key : List ℕ) → wellFormed file ≡ true → (groupForm group && keyForm key) ≡ true
-    → (lookup file group key ≡ refused Missing → has (readRows file) (Key group key) ≡ false)
+    → (has (readRows file) (Key group key) ≡ true → accepted (lookup file group key) ≡ true)
     × (has (readRows file) (Key group key) ≡ false → lookup file group key ≡ refused Missing)
 
 -- choice is refused with 8 exactly if the plain key is missing, or its whole group

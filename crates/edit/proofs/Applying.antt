@@ -1,7 +1,7 @@
 -- An edit written to the journal and made in the file. Assumes nothing.
-use mathlib.Core.Path.{_≡_, refl, sym, ap, _∙_}
+use mathlib.Core.Path.{_≡_, refl, ap, _∙_}
 use mathlib.Core.Bool.{Bool, true, false, _&&_}
-use mathlib.Core.List.{List, _++_, append-assoc}
+use mathlib.Core.List.{List, _++_}
 use Prim.Native.Nat.{ℕ, _+_, _-_, _≤_, _<_}
 use native.Mathlib.Omega.{arith}
 use lib.ListN.{length, take, drop, length-append, length-drop}
@@ -12,8 +12,7 @@ use Rattle.base.specs.Lists.{part}
 use Rattle.base.specs.Over.{over}
 use Rattle.base.proofs.Parts.{drop-take}
 use Rattle.base.proofs.Over.{over-then, length-over}
-use Rattle.record.specs.Number.{littleEndian}
-use Rattle.record.specs.Record.{headBytes, recordBytes}
+use Rattle.record.specs.Record.{recordBytes}
 use Rattle.record.proofs.Numbers.{length-number}
 use Rattle.record.proofs.Sizes.{length-head}
 use Rattle.fault.specs.declared.Fault.{Fault}

@@ -1,23 +1,17 @@
 -- Undo and redo by their steps: what is lent is in order, the journal names an edit, and the edit is made. Assumes nothing.
 use mathlib.Core.Path.{_≡_, refl, sym, _∙_}
-use mathlib.Core.Bool.{Bool, true, false, _&&_}
+use mathlib.Core.Bool.{Bool, true, false}
 use mathlib.Core.Option.{Option, none, some}
 use mathlib.Core.List.{List}
 use Prim.Native.Nat.{ℕ, _+_, _-_, _≤_}
 use native.Mathlib.Omega.{arith}
 use lib.ListN.{length, take}
-use lib.Seq.{length-take-le}
-use lib.Dec.{leb}
-use borrow.Author.Tests.{leb-true}
 use Rattle.base.proofs.Lists.{length-part}
-use Rattle.base.proofs.Tests.{no, and-both}
+use Rattle.base.proofs.Tests.{no}
 use Rattle.fault.specs.declared.Fault.{Fault}
-use Rattle.fault.specs.declared.Fault.the-variants.{TooLong, Damaged, NoRoom, NothingLeft}
+use Rattle.fault.specs.declared.Fault.the-variants.{Damaged, NoRoom, NothingLeft}
 use Rattle.fault.specs.Answer.{Answer, given, refused, _>>=_, need, some-or, then}
-use Rattle.fault.proofs.Answers.{need-given}
-use Rattle.rows.specs.Rows.{readRows}
-use Rattle.rows.specs.Title.{desktopEntry}
-use Rattle.wellformed.specs.Check.{check, checkAs, checkedRows}
+use Rattle.wellformed.specs.Check.{check}
 use Rattle.wellformed.specs.WellFormed.{wellFormed}
 use Rattle.splice.specs.Edit.{Edit, spliced, turned, stands, bufferWith}
 use Rattle.journal.specs.Journal.{Journal, editLength, readJournal, nextOf}

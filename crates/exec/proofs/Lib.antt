@@ -7,5 +7,3 @@ pub mod Writing
 pub mod Values
 pub mod Asking
 pub mod Expanding
-pub mod LawProofs
-pub mod Runs

@@ -1,4 +1,3 @@
 pub mod Run
 pub mod Expand
 pub mod Step
-pub mod Laws
