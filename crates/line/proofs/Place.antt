@@ -18,7 +18,7 @@ use Rattle.text.specs.declared.Due.the-variants.{Start}
 use Rattle.text.proofs.Endings.{fault-inside}
 use Rattle.line.specs.Name.{byteAt, readName}
 use Rattle.line.specs.Line.{entryAfter, entryOf, readEntry, readHeader, readLine, isBad}
-use Rattle.line.specs.Place.{BadByte, Mended, GoodBefore}
+use Rattle.line.specs.Place.{BadWithin, BadByte, Mended, GoodBefore}
 use Rattle.line.specs.declared.Named.{Named}
 use Rattle.line.specs.declared.Named.the-variants.{Name, NoName}
 use Rattle.line.specs.declared.Line.the-variants.{Header, Bad}
@@ -26,6 +26,9 @@ use Rattle.line.proofs.Fronts.{byte-same, name-same, after-same}
 use Rattle.line.proofs.Cases.{signAt, valueAt, afterBy, headerBy, blankBy, firstBy, line-first}
 use Rattle.line.proofs.Ending.{name-closed, after-sign, sign-next, after-mended}
 use Rattle.line.proofs.Bounds.{line-within}
+
+pub bad-within : BadWithin
+bad-within s n e = rw e at (line-within s)
 
 -- ---- after the byte
 
@@ -188,5 +191,5 @@ line-mended (b ∷ p) v e = go (blankByte b) (eqb b 35) (eqb b 91) refl refl ref
 
 pub good-before : GoodBefore
 good-before s n e =
-    let l = length-take-le n s (rw e at (line-within s)) in
+    let l = length-take-le n s (bad-within s n e) in
     line-mended (take n s) (drop n s) (rw (take-append-drop n s) (e ∙ ap Bad (sym l)))

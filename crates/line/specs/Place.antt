@@ -1,5 +1,5 @@
 -- The place of a bad line's byte is right: after it no ending makes a good line, and before it some ending does. Assumes nothing.
-use Prim.Native.Nat.{ℕ, _+_, _<_}
+use Prim.Native.Nat.{ℕ, _+_, _≤_, _<_}
 use Prim.Native.Char.{code}
 use mathlib.Core.Path.{_≡_}
 use mathlib.Core.Bool.{Bool, true, false, not, _&&_}
@@ -13,6 +13,10 @@ use Rattle.line.specs.declared.Line.the-variants.{Bad}
 -- a byte of a line: any but LF
 abbrev pub lineByte : ℕ → Bool
 lineByte b = ltb b 256 && not (eqb b (code "\n"))
+
+-- the bad byte stands in the line; the place is the line's length where the line is only unfinished
+abbrev pub BadWithin : Type 0
+BadWithin = (s : List ℕ) (n : ℕ) → readLine s ≡ Bad n → n ≤ length s
 
 -- whatever follows the bad byte, the line is bad
 abbrev pub BadByte : Type 0
