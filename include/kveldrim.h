@@ -1,5 +1,6 @@
 /*
  * kveldrim.h - the C interface of Kveldrim, a proved core for .desktop files (Desktop Entry Specification 1.5).
+ * SPDX-License-Identifier: Apache-2.0
  *
  * Link with libkveldrim.a, which `rt staticlib kveldrim` writes to target/staticlib:
  *
@@ -32,8 +33,7 @@
  *
  * Refusals
  *
- * A line counts from 1, an offset from 0. Where a place is not named it is 0. Numbers missing here belong to calls that
- * are still to come.
+ * A line counts from 1, an offset from 0. Where a place is not named it is 0.
  *
  *     number                   given when                                                         place
  *      1  KVELDRIM_TOO_LONG     the file is over 32,768 bytes                                      0
@@ -46,7 +46,7 @@
  *      6  KVELDRIM_NO_PLAIN     a key has a postfix, but does not stand without one in its group   the earliest line
  *                               the same of a key about to be set                                  0
  *      7  KVELDRIM_FORM         a group, key or locale that was asked for is not of its form       0
- *      8  KVELDRIM_MISSING      no such group or key                                               0
+ *      8  KVELDRIM_MISSING      no such group, key or run                                          0
  *      9  KVELDRIM_ESCAPE       unknown or unfinished escape                                       offset of its backslash
  *                                                                                                  in the raw value
  *     10  KVELDRIM_UNFIT        text that no value can hold                                        0
