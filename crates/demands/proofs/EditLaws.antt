@@ -21,11 +21,11 @@ use Rattle.rows.specs.Rows.{Row, readRows, rawValue}
 use Rattle.rows.specs.Title.{desktopEntry, Title, Key, sameTitle, findRow}
 use Rattle.rows.proofs.Titles.{same-key}
 use Rattle.rows.proofs.Sight.{linesOf}
-use Rattle.rows.proofs.Told.{found-row, value-stands}
 use Rattle.wellformed.specs.Check.{fileMost, check}
 use Rattle.wellformed.specs.WellFormed.{wellFormed, CheckAccepts}
 use Rattle.wellformed.proofs.Accepts.{check-accepts}
 use Rattle.entry.specs.Lookup.{Extent, valueEnds, lookup}
+use Rattle.entry.proofs.Lookups.{row-stands}
 use Rattle.splice.specs.Edit.{Edit, spliced, bufferWith}
 use Rattle.splice.proofs.Splits.{buffer-content}
 use Rattle.change.specs.Change.{Request, Set, Remove, editOf}
@@ -90,11 +90,6 @@ done s t q h =
 
 -- ---- lookup by the lines of a file
 
--- a row's value stands between its ends
-row-handed : (f : List ℕ) (t : Title) (r : Row) → findRow (readRows f) t ≡ some r → part (valueEnds r .from) (valueEnds r .to) f ≡ rawValue r
-unfolding valueEnds rawValue
-row-handed f t r z = value-stands f (found-row f t r z)
-
 -- lookup in a well-formed file hands back the value by its lines
 lookup-reads : (f group key : List ℕ) → wellFormed f ≡ true → (groupForm group && keyForm key) ≡ true
     → handed f group key ≡ some-or (valueIn (Key group key) [] (linesOf f)) Missing
@@ -104,7 +99,7 @@ lookup-reads f group key h k =
     by : (o : Option Row) → findRow (readRows f) (Key group key) ≡ o
         → then (λ e. part (e .from) (e .to) f) (some-or o Missing >>= (λ r. given (valueEnds r))) ≡ some-or (Option·map rawValue o) Missing
     by none z = refl
-    by (some r) z = ap given (row-handed f (Key group key) r z)
+    by (some r) z = ap given (row-stands f (Key group key) r z)
 
 -- with arguments of another form it is refused
 lookup-formless : (f group key : List ℕ) → wellFormed f ≡ true → (groupForm group && keyForm key) ≡ false → handed f group key ≡ refused BadArgument

@@ -26,7 +26,7 @@ use Rattle.choice.specs.Locale.{candidates, postfixed, firstKey, chosen}
 use Rattle.choice.proofs.Chosen.{chosen-there}
 use Rattle.choice.proofs.Choices.{first-append}
 use Rattle.entry.specs.Lookup.{valueEnds, lookup}
-use Rattle.entry.specs.Choose.{choose}
+use Rattle.entry.specs.Choose.{chosenEnds, choose}
 use Rattle.demands.specs.Files.{LookupMisses, ChoiceMisses, ChoiceTakesFirst}
 
 -- ---- a well-formed file passes the check, and each postfixed key stands plain too
@@ -107,11 +107,10 @@ pub lookup-is : (file group key : List ℕ) → wellFormed file ≡ true → (gr
 unfolding lookup
 lookup-is file group key w f = rw (checks file w) (answers (groupForm group && keyForm key) (some-or (findRow (readRows file) (Key group key)) Missing >>= λ r. given (valueEnds r)) f)
 
-choose-is : (file group key locale : List ℕ) → wellFormed file ≡ true → (groupForm group && plainForm key && localeForm locale) ≡ true
-    → choose file group key locale ≡ (some-or (chosen (readRows file) group key locale) Missing >>= λ r. given (valueEnds r))
+pub choose-is : (file group key locale : List ℕ) → check file ≡ given tt → (groupForm group && plainForm key && localeForm locale) ≡ true
+    → choose file group key locale ≡ chosenEnds (readRows file) group key locale
 unfolding choose
-choose-is file group key locale w f =
-    rw (checks file w) (answers (groupForm group && plainForm key && localeForm locale) (some-or (chosen (readRows file) group key locale) Missing >>= λ r. given (valueEnds r)) f)
+choose-is file group key locale c f = rw c (answers (groupForm group && plainForm key && localeForm locale) (chosenEnds (readRows file) group key locale) f)
 
 pub lookup-misses : LookupMisses
 unfolding LookupMisses
@@ -138,7 +137,7 @@ unfolding ChoiceMisses
 choice-misses file group key locale w f =
     let rs : List Row = readRows file in
     let m = missing (chosen rs group key locale) in
-    let i = choose-is file group key locale w f in
+    let i = choose-is file group key locale (checks file w) f in
     let t = chosen-there rs group key locale in
     let p = and-both (groupForm group) (plainForm key) (and-both (groupForm group && plainForm key) (localeForm locale) f .0) .1 in (
       λ e. or-both (any (λ l. has rs (Key group (postfixed key l))) (candidates locale)) (has rs (Key group key)) (sym t ∙ m .0 (sym i ∙ e)) .1,
@@ -151,4 +150,4 @@ choice-takes-first file group key locale k before after r w f i b y =
     let rs : List Row = readRows file in
     let z : maybe (firstKey rs group before) (firstKey rs group (k ∷ after)) some ≡ some r = rw (b, y) in
     let c : chosen rs group key locale ≡ some r = ap (firstKey rs group) i ∙ first-append rs group before (k ∷ after) ∙ z in
-    choose-is file group key locale w f ∙ rw c
+    choose-is file group key locale (checks file w) f ∙ rw c

@@ -9,3 +9,4 @@ pub mod Expansions
 pub mod Frames
 pub mod Lengths
 pub mod CommandLaws
+pub mod TextLaws

@@ -6,3 +6,4 @@ pub mod Demand3
 pub mod Contracts
 pub mod Examples
 pub mod Commands
+pub mod Texts

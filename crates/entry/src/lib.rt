@@ -4,7 +4,12 @@ use fault::Fault;
 use rows::Found;
 use wellformed::Checked;
 ghost use mathlib.Core.Path.{_≡_};
+ghost use mathlib.Core.Bool.{true};
+ghost use Prim.Native.Nat.{_≤_};
+ghost use lib.ListN.{length};
 ghost use Rattle.base.specs.Lists.{part};
+ghost use Rattle.rows.specs.Rows.{readRows};
+ghost use Rattle.rows.specs.Find.{noneBad};
 ghost use Rattle.entry.specs.Lookup as spec;
 ghost use Rattle.entry.specs.Choose as choice;
 ghost use Rattle.entry.specs.Complete as whole;
@@ -62,6 +67,14 @@ pub fn lookup<'a, 'b>(file: &'a [u8], group: &'b [u8], key: &'b [u8]) -> &'a [u8
     &file[from..to]
 }
 
+// The raw value of a plain key that a locale takes in a file already checked, by its two ends: 8.
+pub fn chosen_ends(file: &[u8], group: &[u8], key: &[u8], locale: &[u8]) -> Ends
+    requires { ⌜ (noneBad (now file) ≡ true) × (length (now file) ≤ 32768) ⌝ }
+    ensures { λ r. ⌜ spec.answered r ≡ choice.chosenEnds (readRows (now (file .entry))) (now (group .entry)) (now (key .entry)) (now (locale .entry)) ⌝ }
+{
+    ends_of(choice::choose_row(file, group, key, locale))
+}
+
 // The raw value of a plain key that a locale takes, by its two ends: 1 to 6, 7, 8.
 pub fn choose_ends(file: &[u8], group: &[u8], key: &[u8], locale: &[u8]) -> Ends
     ensures { λ r. ⌜ spec.answered r ≡ choice.choose (now (file .entry)) (now (group .entry)) (now (key .entry)) (now (locale .entry)) ⌝ }
@@ -72,7 +85,7 @@ pub fn choose_ends(file: &[u8], group: &[u8], key: &[u8], locale: &[u8]) -> Ends
             if line::form::is_group(group) {
                 if line::form::is_plain(key) {
                     if line::form::is_locale(locale) {
-                        return ends_of(choice::choose_row(file, group, key, locale));
+                        return chosen_ends(file, group, key, locale);
                     }
                     return Ends::Refused(Fault::BadArgument);
                 }

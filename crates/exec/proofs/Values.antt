@@ -15,7 +15,7 @@ use Rattle.base.proofs.Lists.{length-part}
 use Rattle.base.proofs.Tests.{no}
 use Rattle.fault.specs.declared.Fault.{Fault}
 use Rattle.fault.specs.declared.Fault.the-variants.{BadEscape, Missing}
-use Rattle.fault.specs.Answer.{Answer, given, refused, then}
+use Rattle.fault.specs.Answer.{Answer, given, refused, _>>=_, some-or, then}
 use Rattle.text.specs.Escape.{escape, textFrom, readText}
 use Rattle.text.specs.Output.{answered, told, held}
 use Rattle.text.specs.Step.{textOf}
@@ -23,12 +23,16 @@ use Rattle.text.specs.declared.Escapes.{Escapes}
 use Rattle.text.specs.declared.Written.{Written}
 use Rattle.text.specs.declared.Written.the-variants as written
 use Rattle.rows.specs.Rows.{Row, readRows, rawValue}
-use Rattle.rows.specs.Title.{Title, Key, findRow, desktopEntry}
+use Rattle.rows.specs.Title.{Title, findRow, desktopEntry}
 use Rattle.rows.specs.Find.{toldOf}
 use Rattle.rows.specs.declared.Found.the-variants as found
-use Rattle.rows.proofs.Told.{Told, told-row, told-nothing, found-row, line-inside, value-inside, value-stands}
+use Rattle.rows.proofs.Told.{Told, told-row}
 use Rattle.choice.specs.Locale.{chosen}
-use Rattle.choice.proofs.Chosen.{first-chosen}
+use Rattle.entry.specs.Lookup as ends
+use Rattle.entry.specs.Choose.{chosenEnds}
+use Rattle.entry.specs.declared.Ends.{Ends}
+use Rattle.entry.specs.declared.Ends.the-variants.{At}
+use Rattle.entry.proofs.Lookups.{row-inside, row-stands, chosen-inside, chosen-stands}
 use Rattle.exec.specs.Expand.{nameText, iconText}
 use Rattle.exec.specs.Step.{ReadTo}
 
@@ -83,10 +87,13 @@ read-refuses (refused g) w = let i = w .tells in cc
 pub read-none : (s : List ℕ) → ReadTo (given []) s (written.Bytes 0) s
 read-none s = record { tells = refl; is = refl; fits = omega arith }
 
-pub read-refused : (f : Fault) (s : List ℕ) → ReadTo (refused f) s (written.Refused f) s
-read-refused f s = record { tells = refl; is = refl; fits = omega arith }
+pub read-refused : {f : Fault} {r : Written} (s : List ℕ) → answered r ≡ refused f → ReadTo (refused f) s r s
+read-refused s e = record { tells = e; is = refl; fits = omega arith }
 
 -- ---- the value of a row that was found
+
+part-short : (from to : ℕ) (file : List ℕ) → to ≤ length file → length (part from to file) ≤ length file
+part-short from to file h = omega (arith, length-part from to file h)
 
 pub record Value (o : Option Row) (file : List ℕ) (from to : ℕ) : Type 0 where
   pub row : Row
@@ -96,33 +103,24 @@ pub record Value (o : Option Row) (file : List ℕ) (from to : ℕ) : Type 0 whe
   pub bytes : part from to file ≡ rawValue row
 
 pub value-short : {o : Option Row} {file : List ℕ} {from to : ℕ} → Value o file from to → length (part from to file) ≤ length file
-value-short {file = file} {from = from} {to = to} w = omega (arith, length-part from to file (w .inside), w .inside)
+value-short {file = file} {from = from} {to = to} w = part-short from to file (w .inside)
 
-row-value : (file : List ℕ) (t : Title) (o : Option Row) (r : Row) → o ≡ some r → findRow (readRows file) t ≡ some r → {n p e v : ℕ} → Told r n p e v → Value o file v e
-unfolding rawValue
-row-value file t o r i g w =
-    let f = found-row file t r g in
-    let l = line-inside file f in
-    let m = value-inside file f in
+row-value : (file : List ℕ) (t : Title) (r : Row) → findRow (readRows file) t ≡ some r → {n p e v : ℕ} → Told r n p e v → Value (findRow (readRows file) t) file v e
+unfolding ends.valueEnds
+row-value file t r i w =
+    let b = row-inside file t r i in
     record {
       row = r;
       is = i;
-      ordered = omega (arith, w .end-is, w .value-is);
-      inside = omega (arith, w .end-is);
-      bytes = rw (w .end-is, w .value-is) (value-stands file f);
+      ordered = rw (w .end-is, w .value-is) (b .0);
+      inside = rw (w .end-is) (b .1);
+      bytes = rw (w .end-is, w .value-is) (row-stands file t r i);
     }
 
 pub key-value : (file : List ℕ) (t : Title) {n p e v : ℕ} → toldOf (findRow (readRows file) t) ≡ found.Row n p e v → Value (findRow (readRows file) t) file v e
 key-value file t {n} {p} {e} {v} i =
     let a = told-row (findRow (readRows file) t) n p e v i in
-    row-value file t (findRow (readRows file) t) (a .0) (a .1) (a .1) (a .2)
-
-pub chosen-value : (file group key locale : List ℕ) {n p e v : ℕ} → toldOf (chosen (readRows file) group key locale) ≡ found.Row n p e v
-    → Value (chosen (readRows file) group key locale) file v e
-chosen-value file group key locale {n} {p} {e} {v} i =
-    let a = told-row (chosen (readRows file) group key locale) n p e v i in
-    let f = first-chosen (readRows file) group key locale (a .0) (a .1) in
-    row-value file (Key group (f .key)) (chosen (readRows file) group key locale) (a .0) (a .1) (f .found) (a .2)
+    row-value file t (a .0) (a .1) (a .2)
 
 -- its text, read to a buffer
 pub text-given : {o : Option Row} {file : List ℕ} {v e : ℕ} → Value o file v e → {s t : List ℕ} {n : ℕ} → ReadTo (readText (part v e file)) s (written.Bytes n) t
@@ -131,27 +129,38 @@ text-given {file = file} {v = v} {e = e} w r = read-given (readText (part v e fi
 
 -- ---- Name and Icon
 
-module _ (file locale : List ℕ) where
-  pub name-found : {v e : ℕ} → Value (chosen (readRows file) desktopEntry (ascii "Name") locale) file v e → nameText (readRows file) locale true ≡ readText (part v e file)
-  unfolding nameText
-  name-found w = rw (w .is, w .bytes)
+-- the ends that a choice told lie in the file, and what stands between them is no longer
+pub chosen-within : (file group key locale : List ℕ) {r : Ends} {from to : ℕ} → ends.answered r ≡ chosenEnds (readRows file) group key locale → r ≡ At from to
+    → (from ≤ to) × (to ≤ length file) × (length (part from to file) ≤ length file)
+chosen-within file group key locale {from = from} {to = to} e i =
+    let w = rw (← e, i) at (chosen-inside file group key locale) in
+    (w .0, w .1, part-short from to file (w .1))
 
-  pub name-missing : toldOf (chosen (readRows file) desktopEntry (ascii "Name") locale) ≡ found.Nothing → nameText (readRows file) locale true ≡ refused Missing
+module _ (file locale : List ℕ) where
+  -- Name is the text of the value chosen, or the choice's refusal
+  pub name-chosen : nameText (readRows file) locale true
+      ≡ (then (λ e. part (e .from) (e .to) file) (chosenEnds (readRows file) desktopEntry (ascii "Name") locale) >>= readText)
   unfolding nameText
-  name-missing i = rw (told-nothing (chosen (readRows file) desktopEntry (ascii "Name") locale) i)
+  name-chosen = rw (chosen-stands file desktopEntry (ascii "Name") locale) (by (chosen (readRows file) desktopEntry (ascii "Name") locale))
+    where
+      by : (o : Option Row) → (some-or o Missing >>= λ r. readText (rawValue r)) ≡ (then rawValue (some-or o Missing) >>= readText)
+      by none = refl
+      by (some r) = refl
 
   pub name-unasked : nameText (readRows file) locale false ≡ given []
   unfolding nameText
   name-unasked = refl
 
   module _ (group : List ℕ) where
-    pub icon-found : {v e : ℕ} → Value (chosen (readRows file) group (ascii "Icon") locale) file v e → iconText (readRows file) group locale true ≡ readText (part v e file)
-    unfolding iconText
-    icon-found w = rw (w .is, w .bytes)
-
-    pub icon-missing : toldOf (chosen (readRows file) group (ascii "Icon") locale) ≡ found.Nothing → iconText (readRows file) group locale true ≡ given []
-    unfolding iconText
-    icon-missing i = rw (told-nothing (chosen (readRows file) group (ascii "Icon") locale) i)
+    -- Icon is the text of the value chosen, and none where the choice is refused
+    pub icon-chosen : iconText (readRows file) group locale true
+        ≡ readText (textOf (then (λ e. part (e .from) (e .to) file) (chosenEnds (readRows file) group (ascii "Icon") locale)))
+    unfolding iconText readText textFrom
+    icon-chosen = rw (chosen-stands file group (ascii "Icon") locale) (by (chosen (readRows file) group (ascii "Icon") locale))
+      where
+        by : (o : Option Row) → maybe o (given []) (λ r. readText (rawValue r)) ≡ readText (textOf (then rawValue (some-or o Missing)))
+        by none = refl
+        by (some r) = refl
 
     pub icon-unasked : iconText (readRows file) group locale false ≡ given []
     unfolding iconText

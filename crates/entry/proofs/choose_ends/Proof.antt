@@ -1,23 +1,16 @@
 -- `choose_ends` meets its contract: the calls that led to each return say which answer the definition has. Assumes nothing.
 use mathlib.Core.Path.{sym, ap, _∙_}
-use Rattle.entry.specs.Lookup.{answered, endsOf}
 use Rattle.entry.specs.Choose.{choose}
-use Rattle.entry.proofs.Lookups.{ends-answer}
 use Rattle.wellformed.specs.Pass as pass
 use Rattle.wellformed.proofs.Accepts.{check-good}
 use Rattle.rows.specs.Title.{desktopEntry}
-use Rattle.rows.specs.Rows.{readRows}
-use Rattle.choice.specs.Locale.{chosen}
 use borrow.Author.Needs.{needs}
 use Rattle.entry.proofs.choose_ends.Statement.{statement}
 use Rattle.entry.proofs.choose_ends.Tie as tie
 
 returns : tie.Need-returns
 unfolding choose
-returns c =
-    let s = c .before .before .before .before .before .before .before .before .before .before .before .before .before .before .before .args in
-    rw (sym (c .before .before .before .before .before .before .before .before .before .before .check .ensures) ∙ ap pass.answered (c .before .before .before .before .before .before .before .before .enum-told .given .1), sym (c .before .before .before .before .before .before .before .is-group .ensures) ∙ c .before .before .before .before .before .before .if1 .taken, sym (c .before .before .before .before .before .is-plain .ensures) ∙ c .before .before .before .before .if2 .taken, sym (c .before .before .before .is-locale .ensures) ∙ c .before .before .if3 .taken)
-    (ap answered (c .ends-of .ensures ∙ ap endsOf (c .before .choose-row .ensures)) ∙ ends-answer (chosen (readRows (s .file .now)) (s .group .now) (s .key .now) (s .locale .now)))
+returns c = rw (sym (c .before .before .before .before .before .before .before .before .before .check .ensures) ∙ ap pass.answered (c .before .before .before .before .before .before .before .enum-told .given .1), sym (c .before .before .before .before .before .before .is-group .ensures) ∙ c .before .before .before .before .before .if1 .taken, sym (c .before .before .before .before .is-plain .ensures) ∙ c .before .before .before .if2 .taken, sym (c .before .before .is-locale .ensures) ∙ c .before .if3 .taken) (c .chosen-ends .ensures)
 
 returns-2 : tie.Need-returns-2
 unfolding choose
@@ -46,7 +39,6 @@ choose-ends-spec =
     (λ c κs. search needs)
     (λ c κs. search needs)
     (λ c κs. check-good desktopEntry (c .before .before .before .before .before .before .before .before .before .before .before .before .before .args .file .now) (sym (sym (c .before .before .before .before .before .before .before .before .check .ensures) ∙ ap pass.answered (c .before .before .before .before .before .before .enum-told .given .1))))
-    (λ c κs. search needs)
     returns
     returns-2
     returns-3
