@@ -47,6 +47,10 @@ spend-add (left.Bytes room) n m =
     (λ f. let g = leb-false m (room - n) f in rw (spend-short g, spend-short {room = room} {n = n + m} (omega arith)))))
     (λ e. let h = leb-false n room e in rw (spend-short h, short-stays m, spend-short {room = room} {n = n + m} (omega arith)))
 
+-- what is left tells what was spent
+pub spend-told : {room n m : ℕ} → n ≤ room → left.Bytes m ≡ spend (left.Bytes room) n → (m ≤ room) × (room - m ≡ n)
+spend-told {room} {n} {m} h e = let k = spend-enough h in let f : m ≡ room - n = cc in (omega arith, omega arith)
+
 -- where it was enough, it was enough
 pub spend-was : {room n m : ℕ} → left.Bytes m ≡ spend (left.Bytes room) n → n ≤ room
 spend-was {room} {n} {m} e =

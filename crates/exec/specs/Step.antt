@@ -1,11 +1,11 @@
 -- What the inner functions of this crate answer, by the definitions of a run. Assumes nothing.
 use mathlib.Core.Path.{_≡_}
-use Prim.Native.Nat.{ℕ, _+_, _-_, _≤_}
+use Prim.Native.Nat.{ℕ, _-_, _≤_}
 use mathlib.Core.List.{List, []}
 use lib.ListN.{length}
 use lib.Dec.{leb}
 use Rattle.base.specs.Choice.{pick, maybe}
-use Rattle.base.specs.Over.{over, atFront}
+use Rattle.base.specs.Over.{atFront}
 use Rattle.fault.specs.Answer.{Answer, given, refused, then}
 use Rattle.record.specs.Record.{readList, listMost}
 use Rattle.exec.specs.Run.{Put}
@@ -30,10 +30,10 @@ itemsIn list = maybe (readList 2 listMost list) [] (λ items. items)
 abbrev pub putOf : List ℕ → List ℕ → List ℕ → Put
 putOf item name location = record { item = item; name = name; location = location }
 
--- a buffer s became t: x stands in it from a place up to n
-pub record Wrote (s : List ℕ) (at : ℕ) (x : List ℕ) (n : ℕ) (t : List ℕ) : Type 0 where
-  pub ends : n ≡ at + length x
-  pub is : t ≡ over s at x
+-- n bytes x were written to the start of a buffer s, which became t
+pub record Wrote (s x : List ℕ) (n : ℕ) (t : List ℕ) : Type 0 where
+  pub long : n ≡ length x
+  pub is : t ≡ atFront s x
 
 -- a text was read to the start of a buffer s with room for it, which became t: how long it is, or its refusal
 pub record ReadTo (a : Answer (List ℕ)) (s : List ℕ) (r : Written) (t : List ℕ) : Type 0 where

@@ -64,6 +64,24 @@ fn pieces_left(
     room
 }
 
+// How many bytes an argument's pieces are, where a room has them all.
+pub fn pieces_length(
+    s: &[u8],
+    quoted: bool,
+    item: &[u8],
+    name: &[u8],
+    location: &[u8],
+    room: usize,
+) -> usize
+    requires { ⌜ (length (now s) ≤ 32768) × (length (run.piecesBytes (spec.putOf (now item) (now name) (now location)) (piecesOf quoted (now s))) ≤ room) ⌝ }
+    ensures { λ r. ⌜ r ≡ length (run.piecesBytes (spec.putOf (now (item .entry)) (now (name .entry)) (now (location .entry))) (piecesOf quoted (now (s .entry)))) ⌝ }
+{
+    let Left::Bytes(left) = pieces_left(s, quoted, item, name, location, Left::Bytes(room)) else {
+        return room;
+    };
+    room - left
+}
+
 // A piece of which nothing is left.
 fn is_nothing(p: Piece, item: &[u8]) -> bool
     ensures { λ r. ⌜ r ≡ run.leavesNothing (now (item .entry)) p ⌝ }

@@ -27,24 +27,18 @@ returns c = items-damaged (c .before .before .before .before .loop .inv .0) (c .
 add-body : tie.Need-add-body Inv-loop μ-loop
 add-body c = let r = front-record _ _ (sym (c .before .before .before .read .ensures) ∙ c .before .end .given .1) in omega arith
 
-sub-put : tie.Need-sub-put Inv-loop μ-loop
-sub-put c = let r = front-record _ _ (sym (c .before .before .before .before .read .ensures) ∙ c .before .before .end .given .1) in r .head-inside
+sub-put-argument-2 : tie.Need-sub-put-argument-2 Inv-loop μ-loop
+sub-put-argument-2 c = let r = front-record _ _ (sym (c .before .before .before .before .read .ensures) ∙ c .before .before .end .given .1) in r .head-inside
 
-part-put-end : tie.Need-part-put-end Inv-loop μ-loop
-part-put-end c = let r = front-record _ _ (sym (c .before .before .before .before .read .ensures) ∙ c .before .before .end .given .1) in r .inside
+part-put-argument-end-2 : tie.Need-part-put-argument-end-2 Inv-loop μ-loop
+part-put-argument-end-2 c = let r = front-record _ _ (sym (c .before .before .before .before .read .ensures) ∙ c .before .before .end .given .1) in r .inside
 
-put-requires : tie.Need-put-requires Inv-loop μ-loop
-put-requires c κs =
+put-argument-requires : tie.Need-put-argument-requires Inv-loop μ-loop
+put-argument-requires c κs =
     let at-end = c .before .before .before in
     let at-read = at-end .before .before in
     let at-loop = at-read .before .before in
     items-room (at-loop .loop .inv .0) (at-loop .loop .inv .1) (front-record _ _ (sym (at-read .read .ensures) ∙ at-end .end .given .1))
-
-loop-less : tie.Need-loop-less Inv-loop μ-loop
-loop-less c =
-    let at-end = c .before .before .before .before .before .before in
-    let at-read = at-end .before .before in
-    let r = front-record _ _ (sym (at-read .read .ensures) ∙ at-end .end .given .1) in omega arith
 
 loop-again : tie.Need-loop-again Inv-loop μ-loop
 loop-again c =
@@ -52,7 +46,17 @@ loop-again c =
     let at-end = at-put .before .before .before .before in
     let at-read = at-end .before .before in
     let at-loop = at-read .before .before in
-    let r = front-record _ _ (sym (at-read .read .ensures) ∙ at-end .end .given .1) in (items-next (at-loop .loop .inv .0) r, items-filled (at-loop .loop .inv .0) (at-loop .loop .inv .1) r (at-put .put .ensures))
+    let r = front-record _ _ (sym (at-read .read .ensures) ∙ at-end .end .given .1) in
+    (items-next (at-loop .loop .inv .0) r, items-filled (at-loop .loop .inv .0) (at-loop .loop .inv .1) r (at-put .put-argument .ensures))
+
+add-at : tie.Need-add-at Inv-loop μ-loop
+add-at c = omega (arith, loop-again c .1 .fill .inside)
+
+loop-less : tie.Need-loop-less Inv-loop μ-loop
+loop-less c =
+    let at-end = c .before .before .before .before .before .before in
+    let at-read = at-end .before .before in
+    let r = front-record _ _ (sym (at-read .read .ensures) ∙ at-end .end .given .1) in omega arith
 
 returns-2 : tie.Need-returns-2 Inv-loop μ-loop
 returns-2 c = items-end (c .before .before .before .before .args .list .now) (c .before .loop .from) (c .before .loop .inv .1) (c .loop-test .left)
@@ -70,10 +74,14 @@ put-items-spec =
     (λ c. search needs)
     returns
     add-body
-    sub-put
-    sub-put
-    part-put-end
-    put-requires
+    (λ c. search needs)
+    (λ c. search needs)
+    (λ c. search needs)
+    sub-put-argument-2
+    sub-put-argument-2
+    part-put-argument-end-2
+    put-argument-requires
+    add-at
     loop-less
     loop-again
     (λ c. search needs)

@@ -3,52 +3,35 @@ use borrow.Author.Needs.{needs}
 use native.Mathlib.Omega.{arith}
 use Prim.Native.Nat.{_-_}
 use lib.ListN.{length}
-use Rattle.base.specs.Lists.{part}
-use Rattle.base.proofs.Lists.{length-part}
-use Rattle.command.specs.Command.{argumentsIn}
-use Rattle.command.proofs.Parting.{word-ends}
 use Rattle.exec.specs.Run.{runOf}
 use Rattle.exec.specs.Step.{putOf, itemsIn}
-use Rattle.exec.proofs.Arguments.{recordsOf, recordsAt, wordRecords, records-space, records-word, records-done}
-use Rattle.exec.proofs.Filling.{Filling, filling-start, filling-as, filling-room, filling-next, filling-end}
+use Rattle.exec.proofs.Writing.{WordsPut, words-start, words-over, words-inside, words-room, words-next, words-end}
 use Rattle.exec.proofs.write.put_run.Statement.{statement}
 use Rattle.exec.proofs.write.put_run.Tie as tie
 
 abbrev Inv-loop : tie.InvT-loop
-Inv-loop out₀ exec item list name icon location i₀ at₀ out i at = let r = runOf (putOf item name location) (itemsIn list) icon in Filling out₀ (recordsOf r (argumentsIn exec)) out at (recordsAt r exec i)
+Inv-loop out₀ exec item list name icon location i₀ at₀ out i at = WordsPut (runOf (putOf item name location) (itemsIn list) icon) exec out₀ out i at
 
 abbrev μ-loop : tie.MeasureT-loop
 μ-loop out₀ exec item list name icon location i₀ at₀ out i at = length exec - i
 
 loop-holds : tie.Need-loop-holds Inv-loop μ-loop
-loop-holds c = filling-start (c .before .before .before .before .before .before .before .pre .2)
+loop-holds c = words-start (c .before .before .before .before .before .before .before .pre .2)
 
 loop-again : tie.Need-loop-again Inv-loop μ-loop
-loop-again c =
-    let at-loop-test = c .before .before in
-    let at-loop = at-loop-test .before in
-    let start = at-loop .before .before .before .before .before .before .before .before in
-    let a = start .args in
-    let r = runOf (putOf (a .item .now) (a .name .now) (a .location .now)) (itemsIn (a .list .now)) (a .icon .now) in
-    filling-as (at-loop .loop .inv) (records-space r (a .exec .now) (at-loop .loop .i) (at-loop-test .loop-test .taken) (c .if1 .taken))
+loop-again c = words-over (c .before .before .before .loop .inv) (c .before .before .loop-test .taken) (c .if1 .taken)
 
-sub-put-word : tie.Need-sub-put-word Inv-loop μ-loop
-sub-put-word c =
-    let at-word-end = c .before in
-    let at-if1 = at-word-end .before in
+sub-put-word-2 : tie.Need-sub-put-word-2 Inv-loop μ-loop
+sub-put-word-2 c =
+    let at-if1 = c .before .before in
     let at-loop-test = at-if1 .before .before in
-    let at-loop = at-loop-test .before in
-    let start = at-loop .before .before .before .before .before .before .before .before in
-    omega (arith, word-ends (start .args .exec .now) (at-loop .loop .i) (at-loop-test .loop-test .taken) (at-if1 .if1 .left) (at-word-end .word-end .ensures))
+    omega (arith, words-inside (at-loop-test .before .loop .inv) (at-loop-test .loop-test .taken) (at-if1 .if1 .left) (c .before .word-end .ensures) .0)
 
-part-put-word-end : tie.Need-part-put-word-end Inv-loop μ-loop
-part-put-word-end c =
-    let at-word-end = c .before in
-    let at-if1 = at-word-end .before in
+part-put-word-end-2 : tie.Need-part-put-word-end-2 Inv-loop μ-loop
+part-put-word-end-2 c =
+    let at-if1 = c .before .before in
     let at-loop-test = at-if1 .before .before in
-    let at-loop = at-loop-test .before in
-    let start = at-loop .before .before .before .before .before .before .before .before in
-    omega (arith, word-ends (start .args .exec .now) (at-loop .loop .i) (at-loop-test .loop-test .taken) (at-if1 .if1 .left) (at-word-end .word-end .ensures))
+    words-inside (at-loop-test .before .loop .inv) (at-loop-test .loop-test .taken) (at-if1 .if1 .left) (c .before .word-end .ensures) .1
 
 put-word-requires : tie.Need-put-word-requires Inv-loop μ-loop
 put-word-requires c κs =
@@ -57,20 +40,8 @@ put-word-requires c κs =
     let at-loop-test = at-if1 .before .before in
     let at-loop = at-loop-test .before in
     let start = at-loop .before .before .before .before .before .before .before .before in
-    let a = start .args in
-    let r = runOf (putOf (a .item .now) (a .name .now) (a .location .now)) (itemsIn (a .list .now)) (a .icon .now) in
-    let e = word-ends (a .exec .now) (at-loop .loop .i) (at-loop-test .loop-test .taken) (at-if1 .if1 .left) (at-word-end .word-end .ensures) in
-    let l = length-part (at-loop .loop .i) (at-word-end .word-end .result) (a .exec .now) (e .1) in
-    (omega arith, omega arith, start .pre .1, filling-room (at-loop .loop .inv) (wordRecords r (part (at-loop .loop .i) (at-word-end .word-end .result) (a .exec .now))) _ (records-word r (a .exec .now) (at-loop .loop .i) (at-loop-test .loop-test .taken) (at-if1 .if1 .left) (at-word-end .word-end .ensures)))
-
-loop-less-2 : tie.Need-loop-less-2 Inv-loop μ-loop
-loop-less-2 c =
-    let at-word-end = c .before .before .before .before .before in
-    let at-if1 = at-word-end .before in
-    let at-loop-test = at-if1 .before .before in
-    let at-loop = at-loop-test .before in
-    let start = at-loop .before .before .before .before .before .before .before .before in
-    omega (arith, word-ends (start .args .exec .now) (at-loop .loop .i) (at-loop-test .loop-test .taken) (at-if1 .if1 .left) (at-word-end .word-end .ensures))
+    let b = words-inside (at-loop .loop .inv) (at-loop-test .loop-test .taken) (at-if1 .if1 .left) (at-word-end .word-end .ensures) in
+    (omega arith, omega arith, start .pre .1, words-room (at-loop .loop .inv) (at-loop-test .loop-test .taken) (at-if1 .if1 .left) (at-word-end .word-end .ensures))
 
 loop-again-2 : tie.Need-loop-again-2 Inv-loop μ-loop
 loop-again-2 c =
@@ -78,19 +49,20 @@ loop-again-2 c =
     let at-word-end = at-put-word .before .before .before in
     let at-if1 = at-word-end .before in
     let at-loop-test = at-if1 .before .before in
-    let at-loop = at-loop-test .before in
-    let start = at-loop .before .before .before .before .before .before .before .before in
-    let a = start .args in
-    let r = runOf (putOf (a .item .now) (a .name .now) (a .location .now)) (itemsIn (a .list .now)) (a .icon .now) in
-    filling-next (at-loop .loop .inv) (wordRecords r (part (at-loop .loop .i) (at-word-end .word-end .result) (a .exec .now))) _ (records-word r (a .exec .now) (at-loop .loop .i) (at-loop-test .loop-test .taken) (at-if1 .if1 .left) (at-word-end .word-end .ensures)) (at-put-word .put-word .ensures .ends, at-put-word .put-word .ensures .is)
+    words-next (at-loop-test .before .loop .inv) (at-loop-test .loop-test .taken) (at-if1 .if1 .left) (at-word-end .word-end .ensures) (at-put-word .put-word .ensures)
+
+add-at : tie.Need-add-at Inv-loop μ-loop
+add-at c = omega (arith, loop-again-2 c .filling .fill .inside)
+
+loop-less-2 : tie.Need-loop-less-2 Inv-loop μ-loop
+loop-less-2 c =
+    let at-word-end = c .before .before .before .before .before in
+    let at-if1 = at-word-end .before in
+    let at-loop-test = at-if1 .before .before in
+    omega (arith, words-inside (at-loop-test .before .loop .inv) (at-loop-test .loop-test .taken) (at-if1 .if1 .left) (at-word-end .word-end .ensures))
 
 returns : tie.Need-returns Inv-loop μ-loop
-returns c =
-    let at-loop = c .before in
-    let start = at-loop .before .before .before .before .before .before .before .before in
-    let a = start .args in
-    let r = runOf (putOf (a .item .now) (a .name .now) (a .location .now)) (itemsIn (a .list .now)) (a .icon .now) in
-    filling-end (at-loop .loop .inv) (records-done r (a .exec .now) (at-loop .loop .i) (c .loop-test .left))
+returns c = let w = words-end (c .before .loop .inv) (c .loop-test .left) in (w .long, w .is)
 
 pub put-run-spec : {M : Type 1} → statement M
 put-run-spec =
@@ -104,10 +76,14 @@ put-run-spec =
     (λ c. search needs)
     loop-again
     (λ c κs. search needs)
-    sub-put-word
-    sub-put-word
-    part-put-word-end
+    (λ c. search needs)
+    (λ c. search needs)
+    (λ c. search needs)
+    sub-put-word-2
+    sub-put-word-2
+    part-put-word-end-2
     put-word-requires
+    add-at
     loop-less-2
     loop-again-2
     (λ c. search needs)

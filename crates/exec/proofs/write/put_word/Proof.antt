@@ -1,17 +1,11 @@
 -- `write::put_word` meets its contract: each form writes what its argument becomes. Assumes nothing.
 use native.Mathlib.Omega.{arith}
 use mathlib.Core.Path.{sym, _∙_}
-use Rattle.base.specs.Lists.{part}
 use Rattle.base.proofs.Lists.{length-part}
-use Rattle.command.specs.Command.{piecesOf}
 use Rattle.command.proofs.Parting.{quote-ends}
-use mathlib.Core.Bool.{true, false}
-use Rattle.record.specs.Record.{listOf}
-use Rattle.exec.specs.Run.{runOf, piecesBytes}
-use Rattle.exec.specs.Step.{putOf, itemsIn}
 use Rattle.exec.proofs.Listing.{length-one}
 use Rattle.exec.proofs.Arguments.{files-records, icon-records, quoted-records, dropped-records, bare-records}
-use Rattle.exec.proofs.Writing.{wrote-none, wrote-tail, wrote-record, list-one}
+use Rattle.exec.proofs.Writing.{wrote-none}
 use borrow.Author.Needs.{needs}
 use Rattle.exec.proofs.write.put_word.Statement.{statement}
 use Rattle.exec.proofs.write.put_word.Tie as tie
@@ -21,29 +15,16 @@ put-items-requires c κs =
     let at-enum-told = c .before in
     let at-form-of = at-enum-told .before .before in
     let start = at-form-of .before .before .before .before .before .before .before .before in
-    let a = start .args in
-    let r = runOf (putOf (a .item .now) (a .name .now) (a .location .now)) (itemsIn (a .list .now)) (a .icon .now) in
-    let h = rw (files-records r (a .word .now) (sym (at-enum-told .enum-told .given .1) ∙ at-form-of .form-of .ensures)) at (start .pre .3) in
-    (start .pre .2, search needs)
-
-add-result : tie.Need-add-result
-add-result c =
-    let at-put-items = c .before .before in
-    let at-enum-told = at-put-items .before .before in
-    let at-form-of = at-enum-told .before .before in
-    let start = at-form-of .before .before .before .before .before .before .before .before in
-    let a = start .args in
-    let r = runOf (putOf (a .item .now) (a .name .now) (a .location .now)) (itemsIn (a .list .now)) (a .icon .now) in
-    omega (arith, rw (files-records r (a .word .now) (sym (at-enum-told .enum-told .given .1) ∙ at-form-of .form-of .ensures)) at (start .pre .3), at-put-items .put-items .ensures .0)
+    let e = sym (at-enum-told .enum-told .given .1) ∙ at-form-of .form-of .ensures in
+    (start .pre .2, rw files-records at (start .pre .3))
 
 put-icon-requires : tie.Need-put-icon-requires
 put-icon-requires c κs =
     let at-enum-told2 = c .before in
     let at-form-of = at-enum-told2 .before .before in
     let start = at-form-of .before .before .before .before .before .before .before .before in
-    let a = start .args in
-    let r = runOf (putOf (a .item .now) (a .name .now) (a .location .now)) (itemsIn (a .list .now)) (a .icon .now) in
-    rw (icon-records r (a .word .now) (sym (at-enum-told2 .enum-told2 .given .1) ∙ at-form-of .form-of .ensures)) at (start .pre .3)
+    let e = sym (at-enum-told2 .enum-told2 .given .1) ∙ at-form-of .form-of .ensures in
+    rw icon-records at (start .pre .3)
 
 part-put-text-end : tie.Need-part-put-text-end
 part-put-text-end c =
@@ -57,11 +38,10 @@ put-text-requires c κs =
     let at-enum-told3 = at-quote-end .before in
     let at-form-of = at-enum-told3 .before .before in
     let start = at-form-of .before .before .before .before .before .before .before .before in
-    let a = start .args in
-    let r = runOf (putOf (a .item .now) (a .name .now) (a .location .now)) (itemsIn (a .list .now)) (a .icon .now) in
-    let q = quote-ends (a .word .now) (search needs) (at-quote-end .quote-end .ensures) in
-    let h = rw (quoted-records r (a .word .now) (sym (at-enum-told3 .enum-told3 .given .1) ∙ at-form-of .form-of .ensures) (at-quote-end .quote-end .ensures), length-one 3 (piecesBytes (r .put) (piecesOf true (part 1 (at-quote-end .quote-end .result) (a .word .now))))) at (start .pre .3) in
-    (omega (arith, length-part 1 (at-quote-end .quote-end .result) (a .word .now) (q .1)), h)
+    let e = sym (at-enum-told3 .enum-told3 .given .1) ∙ at-form-of .form-of .ensures in
+    let h = at-quote-end .quote-end .ensures in
+    let q = quote-ends (start .args .word .now) (search needs) h in
+    (omega (arith, length-part 1 (at-quote-end .quote-end .result) (start .args .word .now) (q .1)), rw (quoted-records _ _ e h, length-one) at (start .pre .3))
 
 returns : tie.Need-returns
 returns c =
@@ -69,9 +49,9 @@ returns c =
     let at-enum-told4 = at-is-dropped .before in
     let at-form-of = at-enum-told4 .before .before in
     let start = at-form-of .before .before .before .before .before .before .before .before in
-    let a = start .args in
-    let r = runOf (putOf (a .item .now) (a .name .now) (a .location .now)) (itemsIn (a .list .now)) (a .icon .now) in
-    rw (dropped-records r (a .word .now) (sym (at-enum-told4 .enum-told4 .given .1) ∙ at-form-of .form-of .ensures) (sym (at-is-dropped .is-dropped .ensures) ∙ c .if1 .taken)) (wrote-none (a .out .now) (a .at))
+    let e = sym (at-enum-told4 .enum-told4 .given .1) ∙ at-form-of .form-of .ensures in
+    let d = sym (at-is-dropped .is-dropped .ensures) ∙ c .if1 .taken in
+    rw dropped-records (wrote-none (start .args .out .now))
 
 put-text-requires-2 : tie.Need-put-text-requires-2
 put-text-requires-2 c κs =
@@ -80,41 +60,32 @@ put-text-requires-2 c κs =
     let at-enum-told4 = at-is-dropped .before in
     let at-form-of = at-enum-told4 .before .before in
     let start = at-form-of .before .before .before .before .before .before .before .before in
-    let a = start .args in
-    let r = runOf (putOf (a .item .now) (a .name .now) (a .location .now)) (itemsIn (a .list .now)) (a .icon .now) in
-    (start .pre .1, rw (bare-records r (a .word .now) (sym (at-enum-told4 .enum-told4 .given .1) ∙ at-form-of .form-of .ensures) (sym (at-is-dropped .is-dropped .ensures) ∙ at-if1 .if1 .left), length-one 3 (piecesBytes (r .put) (piecesOf false (a .word .now)))) at (start .pre .3))
+    let e = sym (at-enum-told4 .enum-told4 .given .1) ∙ at-form-of .form-of .ensures in
+    let d = sym (at-is-dropped .is-dropped .ensures) ∙ at-if1 .if1 .left in
+    (start .pre .1, rw (bare-records, length-one) at (start .pre .3))
 
 returns-2 : tie.Need-returns-2
 returns-2 c =
     let at-put-items = c .before .before in
     let at-enum-told = at-put-items .before .before in
-    let at-form-of = at-enum-told .before .before in
-    let start = at-form-of .before .before .before .before .before .before .before .before in
-    let a = start .args in
-    let r = runOf (putOf (a .item .now) (a .name .now) (a .location .now)) (itemsIn (a .list .now)) (a .icon .now) in
-    rw (files-records r (a .word .now) (sym (at-enum-told .enum-told .given .1) ∙ at-form-of .form-of .ensures)) (wrote-tail (a .out .now) (a .at) (listOf 3 (itemsIn (a .list .now))) (at-put-items .put-items .ensures))
+    let e = sym (at-enum-told .enum-told .given .1) ∙ at-enum-told .before .before .form-of .ensures in
+    rw files-records (at-put-items .put-items .ensures)
 
 returns-3 : tie.Need-returns-3
 returns-3 c =
     let at-put-icon = c .before .before in
     let at-enum-told2 = at-put-icon .before .before in
-    let at-form-of = at-enum-told2 .before .before in
-    let start = at-form-of .before .before .before .before .before .before .before .before in
-    let a = start .args in
-    let r = runOf (putOf (a .item .now) (a .name .now) (a .location .now)) (itemsIn (a .list .now)) (a .icon .now) in
-    rw (icon-records r (a .word .now) (sym (at-enum-told2 .enum-told2 .given .1) ∙ at-form-of .form-of .ensures)) (at-put-icon .put-icon .ensures)
+    let e = sym (at-enum-told2 .enum-told2 .given .1) ∙ at-enum-told2 .before .before .form-of .ensures in
+    rw icon-records (at-put-icon .put-icon .ensures)
 
 returns-4 : tie.Need-returns-4
 returns-4 c =
     let at-put-text = c .before .before in
     let at-quote-end = at-put-text .before .before .before in
     let at-enum-told3 = at-quote-end .before in
-    let at-form-of = at-enum-told3 .before .before in
-    let start = at-form-of .before .before .before .before .before .before .before .before in
-    let a = start .args in
-    let r = runOf (putOf (a .item .now) (a .name .now) (a .location .now)) (itemsIn (a .list .now)) (a .icon .now) in
-    let b = piecesBytes (r .put) (piecesOf true (part 1 (at-quote-end .quote-end .result) (a .word .now))) in
-    rw (quoted-records r (a .word .now) (sym (at-enum-told3 .enum-told3 .given .1) ∙ at-form-of .form-of .ensures) (at-quote-end .quote-end .ensures), list-one b) (wrote-record b (at-put-text .put-text .ensures))
+    let e = sym (at-enum-told3 .enum-told3 .given .1) ∙ at-enum-told3 .before .before .form-of .ensures in
+    let h = at-quote-end .quote-end .ensures in
+    rw (quoted-records _ _ e h) (at-put-text .put-text .ensures)
 
 returns-5 : tie.Need-returns-5
 returns-5 c =
@@ -122,12 +93,9 @@ returns-5 c =
     let at-if1 = at-put-text2 .before .before in
     let at-is-dropped = at-if1 .before in
     let at-enum-told4 = at-is-dropped .before in
-    let at-form-of = at-enum-told4 .before .before in
-    let start = at-form-of .before .before .before .before .before .before .before .before in
-    let a = start .args in
-    let r = runOf (putOf (a .item .now) (a .name .now) (a .location .now)) (itemsIn (a .list .now)) (a .icon .now) in
-    let b = piecesBytes (r .put) (piecesOf false (a .word .now)) in
-    rw (bare-records r (a .word .now) (sym (at-enum-told4 .enum-told4 .given .1) ∙ at-form-of .form-of .ensures) (sym (at-is-dropped .is-dropped .ensures) ∙ at-if1 .if1 .left), list-one b) (wrote-record b (at-put-text2 .put-text2 .ensures))
+    let e = sym (at-enum-told4 .enum-told4 .given .1) ∙ at-enum-told4 .before .before .form-of .ensures in
+    let d = sym (at-is-dropped .is-dropped .ensures) ∙ at-if1 .if1 .left in
+    rw bare-records (at-put-text2 .put-text2 .ensures)
 
 pub put-word-spec : {M : Type 1} → statement M
 put-word-spec =
@@ -135,11 +103,7 @@ put-word-spec =
     (tie.spec
     (λ c κs. search needs)
     (λ c. search needs)
-    (λ c. search needs)
-    (λ c. search needs)
-    (λ c. search needs)
     put-items-requires
-    add-result
     (λ c. search needs)
     put-icon-requires
     (λ c. search needs)
