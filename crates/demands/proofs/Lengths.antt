@@ -1,15 +1,16 @@
 -- How long the arguments of an accepted expansion are: each fits a record, so that the output reads back. Assumes nothing.
 use Prim.Native.Nat.{ℕ, zero, suc, _+_, _-_, _*_, _≤_, _<_}
 use native.Mathlib.Omega.{arith}
-use mathlib.Core.Path.{_≡_, refl, sym, ap, _∙_}
+use mathlib.Core.Path.{_≡_, refl}
 use mathlib.Core.Bool.{Bool, true, false, not, _&&_}
-use mathlib.Core.Option.{Option, none, some, Option·some-injective}
+use mathlib.Core.Option.{Option, none, some}
 use mathlib.Core.List.{List, [], _∷_, _++_, map}
 use lib.ListN.{length, take, drop, getD, length-append, length-take, length-drop}
 use lib.Dec.{eqb, leb}
 use borrow.Author.Tests.{leb-true}
 use Rattle.base.specs.Choice.{pick, maybe}
 use Rattle.base.specs.Lists.{ascii, all}
+use Rattle.base.proofs.Lists.{length-part}
 use Rattle.base.proofs.Tests.{and-both}
 use Rattle.fault.specs.declared.Fault.the-variants.{Missing}
 use Rattle.fault.specs.Answer.{given, unless}
@@ -20,10 +21,10 @@ use Rattle.record.proofs.Back.{FitsAll, no-record, one-more, fits}
 use Rattle.record.proofs.Bodies.{list-sound, list-back}
 use Rattle.text.specs.Escape.{readText}
 use Rattle.rows.specs.Rows.{Row, readRows, rawValue}
-use Rattle.rows.specs.Title.{Title, findRow, desktopEntry}
-use Rattle.rows.specs.Find.{toldOf}
+use Rattle.rows.specs.Title.{Title, Key, findRow, desktopEntry}
 use Rattle.wellformed.specs.Check.{fileMost, checkAs, checkedRows}
 use Rattle.choice.specs.Locale.{chosen}
+use Rattle.choice.proofs.Chosen.{first-chosen}
 use Rattle.command.specs.declared.Piece.{Piece}
 use Rattle.command.specs.declared.Piece.the-variants as piece
 use Rattle.command.specs.declared.Form.{Form}
@@ -35,7 +36,9 @@ use Rattle.exec.specs.Expand.{fitLocation, noZero, nameText, iconText}
 use Rattle.exec.specs.Step.{putOf, itemsIn}
 use Rattle.exec.proofs.Spending.{bytes-cons, bytes-none}
 use Rattle.exec.proofs.Listing.{length-cons, length-one, items-length}
-use Rattle.exec.proofs.Values.{Value, value-short, key-value, chosen-value, read-le}
+use Rattle.entry.specs.Lookup.{valueEnds}
+use Rattle.entry.proofs.Lookups.{row-inside, row-stands}
+use Rattle.exec.proofs.Values.{read-le}
 use Rattle.demands.proofs.Expansions.{Sound, Listed, argumentsOf}
 
 -- every element is so
@@ -155,17 +158,19 @@ fits-all (one-is b p h) = one-more (fits (record { kind = 3; body = b }) (omega 
 
 -- ---- how long the texts are
 
-raw-short : (file : List ℕ) (o : Option Row) (r : Row) → o ≡ some r → {v e : ℕ} → Value o file v e → length (rawValue r) ≤ length file
-raw-short file o r i w =
-    let j : w .row ≡ r = Option·some-injective _ _ (sym (w .is) ∙ i) in
-    rw (← j, ← w .bytes) (value-short w)
+-- the raw value of a row that was found is no longer than the file
+raw-short : (file : List ℕ) (t : Title) (r : Row) → findRow (readRows file) t ≡ some r → length (rawValue r) ≤ length file
+raw-short file t r i =
+    let e = valueEnds r in
+    let h : e .to ≤ length file = row-inside file t r i .1 in
+    rw (← row-stands file t r i) (omega (arith, length-part (e .from) (e .to) file h))
 
-text-short : (file : List ℕ) (o : Option Row) (r : Row) → o ≡ some r → {v e : ℕ} → Value o file v e → {t : List ℕ} → readText (rawValue r) ≡ given t → length t ≤ length file
-text-short file o r i w e = omega (arith, rw e at (read-le (rawValue r)), raw-short file o r i w)
+text-short : (file : List ℕ) (t : Title) (r : Row) → findRow (readRows file) t ≡ some r → {s : List ℕ} → readText (rawValue r) ≡ given s → length s ≤ length file
+text-short file t r i e = omega (arith, rw e at (read-le (rawValue r)), raw-short file t r i)
 
 module _ (file locale : List ℕ) where
-  chosen-short : (group key : List ℕ) (r : Row) → chosen (readRows file) group key locale ≡ some r → {t : List ℕ} → readText (rawValue r) ≡ given t → length t ≤ length file
-  chosen-short group key r i e = text-short file (chosen (readRows file) group key locale) r i (chosen-value file group key locale (ap toldOf i)) e
+  chosen-short : (group key : List ℕ) (r : Row) → chosen (readRows file) group key locale ≡ some r → {s : List ℕ} → readText (rawValue r) ≡ given s → length s ≤ length file
+  chosen-short group key r i e = let w = first-chosen (readRows file) group key locale r i in text-short file (Key group (w .key)) r (w .found) e
 
   name-short : (asked : Bool) {name : List ℕ} → nameText (readRows file) locale asked ≡ given name → length name ≤ length file
   unfolding nameText
@@ -180,9 +185,6 @@ module _ (file locale : List ℕ) where
       go : (o : Option Row) → chosen (readRows file) group (ascii "Icon") locale ≡ o → maybe o (given []) (λ r. readText (rawValue r)) ≡ given icon → length icon ≤ length file
       go none i e = let j : [] ≡ icon = given-is _ _ e in rw (← j) (omega arith)
       go (some r) i e = chosen-short group (ascii "Icon") r i e
-
-exec-short : (file : List ℕ) (t : Title) (r : Row) → findRow (readRows file) t ≡ some r → {exec : List ℕ} → readText (rawValue r) ≡ given exec → length exec ≤ length file
-exec-short file t r i e = text-short file (findRow (readRows file) t) r i (key-value file t (ap toldOf i)) e
 
 file-short : (file : List ℕ) → checkAs desktopEntry file ≡ given tt → length file ≤ 32768
 unfolding checkAs
@@ -227,7 +229,7 @@ arguments-short {file} {locale} {location} {list} s items w run =
     })
     (each-weaker (λ b l. omega arith) h)
     (omega (arith, icon-short file locale desktopEntry _ (s .pictured)))
-    (each-weaker (few-more (omega (arith, exec-short file _ (s .row) (s .found) (s .unescaped)))) (command-few (s .exec) (s .command) (s .read))))
+    (each-weaker (few-more (omega (arith, text-short file _ (s .row) (s .found) (s .unescaped)))) (command-few (s .exec) (s .command) (s .read))))
   where
     few-more : {n : ℕ} → n ≤ 32768 → (a : Argument) → Few n a → Few 32768 a
     few-more h Files f = tt
