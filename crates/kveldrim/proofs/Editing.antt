@@ -1,11 +1,10 @@
 -- What a C program sees of a call that edits, from what the call answers and leaves. Assumes nothing.
-use mathlib.Core.Path.{_≡_, refl, ap, _∙_}
+use mathlib.Core.Path.{_≡_, refl, _∙_}
 use Prim.Native.Nat.{ℕ}
 use mathlib.Core.List.{List}
 use Rattle.fault.specs.Answer.{Answer, given, refused}
 use Rattle.edit.specs.Calls.{State, atExit}
-use Rattle.edit.specs.Step.{Numbers, answered, told, Made}
-use Rattle.edit.specs.declared.Edited.{Edited}
+use Rattle.edit.specs.Step.{told}
 use Rattle.kveldrim.specs.Abi.{codeOf, placeIn, writtenIn, Called}
 
 -- an answer's numbers tell the same code and place
@@ -29,16 +28,17 @@ standing-told : (s : State) (a : Answer State) → writtenIn (λ n. n .standing)
 standing-told s (given t) = refl
 standing-told s (refused f) = refl
 
-pub called : (s : State) (a : Answer State) {e : Edited} {code place size used standing : ℕ} {file journal : List ℕ} → Made s a e file journal
-    → (code ≡ codeOf (answered e)) × (place ≡ placeIn (answered e)) × (size ≡ writtenIn (λ n. n .size) (answered e) (s .size))
-    × (used ≡ writtenIn (λ n. n .used) (answered e) (s .used)) × (standing ≡ writtenIn (λ n. n .standing) (answered e) (s .standing))
+-- what a C program sees, from the numbers that the call tells
+pub called : (s : State) (a : Answer State) {code place size used standing : ℕ} {file journal : List ℕ} → code ≡ codeOf (told a)
+    → place ≡ placeIn (told a) → size ≡ writtenIn (λ n. n .size) (told a) (s .size) → used ≡ writtenIn (λ n. n .used) (told a) (s .used)
+    → standing ≡ writtenIn (λ n. n .standing) (told a) (s .standing) → file ≡ atExit s a .file → journal ≡ atExit s a .journal
     → Called s a code place size used standing file journal
-called s a m t = record {
-  code-is = t .0 ∙ ap codeOf (m .answer) ∙ code-told a;
-  place-is = t .1 ∙ ap placeIn (m .answer) ∙ place-told a;
-  size-is = t .2 ∙ ap (λ (x : Answer Numbers). writtenIn (λ n. n .size) x (s .size)) (m .answer) ∙ size-told s a;
-  used-is = t .3 ∙ ap (λ (x : Answer Numbers). writtenIn (λ n. n .used) x (s .used)) (m .answer) ∙ used-told s a;
-  standing-is = t .4 ∙ ap (λ (x : Answer Numbers). writtenIn (λ n. n .standing) x (s .standing)) (m .answer) ∙ standing-told s a;
-  file-is = m .file-is;
-  journal-is = m .journal-is;
+called s a code place size used standing file journal = record {
+  code-is = code ∙ code-told a;
+  place-is = place ∙ place-told a;
+  size-is = size ∙ size-told s a;
+  used-is = used ∙ used-told s a;
+  standing-is = standing ∙ standing-told s a;
+  file-is = file;
+  journal-is = journal;
 }

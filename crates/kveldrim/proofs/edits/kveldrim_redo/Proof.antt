@@ -10,7 +10,7 @@ returns : tie.Need-returns
 returns c =
     let a = c .before .before .before .before .before .before .before .before .before .before .before .before .before .before .before .args in
     let s = lent (a .file .now) (a .size .now) (a .journal .now) (a .used .now) (a .standing .now) in
-    called s (redo s) (c .before .before .before .before .before .before .before .redo .ensures) (c .tell-edited .ensures)
+    called s (redo s) (cc) (cc) (cc) (cc) (cc) (search needs) (search needs)
 
 pub kveldrim-redo-spec : {M : Type 1} → statement M
 kveldrim-redo-spec =

@@ -11,7 +11,7 @@ returns : tie.Need-returns
 returns c =
     let a = c .before .before .before .before .before .before .before .before .before .before .before .before .before .before .before .before .before .before .before .args in
     let s = lent (a .file .now) (a .size .now) (a .journal .now) (a .used .now) (a .standing .now) in
-    called s (request s (Remove (a .group .now) (a .key .now))) (c .before .before .before .before .before .before .before .before .before .remove .ensures) (c .tell-edited .ensures)
+    called s (request s (Remove (a .group .now) (a .key .now))) (cc) (cc) (cc) (cc) (cc) (search needs) (search needs)
 
 pub kveldrim-remove-spec : {M : Type 1} → statement M
 kveldrim-remove-spec =

@@ -11,7 +11,10 @@ returns : tie.Need-returns
 returns c =
     let a = c .before .before .before .before .before .before .before .before .before .before .before .before .before .before .before .before .before .before .before .before .args in
     let s = lent (a .file .now) (a .size .now) (a .journal .now) (a .used .now) (a .standing .now) in
-    called s (request s (Set (a .group .now) (a .key .now) (a .text .now))) (c .before .before .before .before .before .before .before .before .before .set .ensures) (c .tell-edited .ensures)
+    let e = c .before .before .before .before .before .before .before .before .before .set .ensures in
+    let t = c .tell-edited .ensures in
+    called s (request s (Set (a .group .now) (a .key .now) (a .text .now))) (rw (e .answer) at (t .0)) (rw (e .answer) at (t .1)) (rw (e .answer) at (t .2)) (rw (e .answer) at (t .3))
+    (rw (e .answer) at (t .4)) (e .file-is) (e .journal-is)
 
 pub kveldrim-set-spec : {M : Type 1} → statement M
 kveldrim-set-spec =

@@ -10,7 +10,7 @@ returns : tie.Need-returns
 returns c =
     let a = c .before .before .before .before .before .before .before .before .before .before .before .before .before .before .before .args in
     let s = lent (a .file .now) (a .size .now) (a .journal .now) (a .used .now) (a .standing .now) in
-    called s (undo s) (c .before .before .before .before .before .before .before .undo .ensures) (c .tell-edited .ensures)
+    called s (undo s) (cc) (cc) (cc) (cc) (cc) (search needs) (search needs)
 
 pub kveldrim-undo-spec : {M : Type 1} → statement M
 kveldrim-undo-spec =
