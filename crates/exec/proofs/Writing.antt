@@ -1,4 +1,4 @@
--- What writes one behind another leave, and the items of a list, record by record. Assumes nothing.
+-- What writes one behind another leave, and an output that is filled by the items of a list and by words. Assumes nothing.
 use mathlib.Core.Path.{_≡_, refl, sym, ap, _∙_}
 use Prim.Native.Nat.{ℕ, _+_, _-_, _≤_, _<_}
 use native.Mathlib.Nat.{zero-add}
