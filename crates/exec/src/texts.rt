@@ -10,7 +10,7 @@ ghost use Rattle.text.specs.Escape.{readText};
 ghost use Rattle.text.specs.Output.{answered};
 ghost use Rattle.rows.specs.Rows.{readRows};
 ghost use Rattle.rows.specs.Find.{noneBad};
-ghost use Rattle.entry.specs.Lookup as found;
+ghost use Rattle.entry.specs.Lookup as ends;
 ghost use Rattle.exec.specs.Expand as spec;
 ghost use Rattle.exec.specs.Step.{ReadTo};
 
@@ -24,7 +24,7 @@ pub fn read_whole(raw: &[u8], out: &mut [u8]) -> Written
 
 // The refusal of a choice, with its number and place; of one that was not refused, no bytes.
 fn refusal_of(e: Ends) -> Written
-    ensures { λ r. ⌜ answered r ≡ then (λ _. 0) (found.answered e) ⌝ }
+    ensures { λ r. ⌜ answered r ≡ then (λ _. 0) (ends.answered e) ⌝ }
 {
     match e {
         Ends::At { from: _, to: _ } => Written::Bytes(0),
@@ -47,7 +47,7 @@ pub fn name_text(file: &[u8], locale: &[u8], wanted: bool, out: &mut [u8]) -> Wr
     Written::Bytes(0)
 }
 
-// The text of a group's Icon by locale, where it is wanted. In a file already checked the choice is refused with 8 only: a missing one is none.
+// The text of a group's Icon by locale, where it is wanted; a missing one is none. In a file already checked the choice is refused with 8 only.
 pub fn icon_text(file: &[u8], group: &[u8], locale: &[u8], wanted: bool, out: &mut [u8]) -> Written
     requires { ⌜ (noneBad (now file) ≡ true) × (length (now file) ≤ 32768) × (32768 ≤ length (now out)) ⌝ }
     ensures { λ r. ⌜ ReadTo (spec.iconText (readRows (now (file .entry))) (now (group .entry)) (now (locale .entry)) wanted) (now (out .entry)) r (now (out .exit)) ⌝ }
