@@ -9,4 +9,4 @@ kveldrim-complete-spec =
     (tie.spec
     (λ c κs. search needs)
     (λ c κs. search needs)
-    (λ c. rw (← c .before .before .is-complete .ensures) (c .tell-checked .ensures)))
+    (λ c. (cc, cc)))

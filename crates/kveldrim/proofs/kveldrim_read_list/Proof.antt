@@ -10,4 +10,4 @@ kveldrim-read-list-spec =
     (λ c κs. search needs)
     (λ c κs. search needs)
     (λ c. search needs)
-    (λ c. let r = c .before .before .before .before .before in (rw (← r .read-list .ensures .0) (c .tell-written .ensures), r .read-list .ensures .1)))
+    (λ c. ((cc, cc, cc), cc)))
