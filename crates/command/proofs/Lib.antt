@@ -1,4 +1,3 @@
-pub mod Examples
 pub mod Parting
 pub mod Pieces
 pub mod Checks

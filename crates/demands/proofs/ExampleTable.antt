@@ -4,13 +4,13 @@ use Rattle.base.specs.Lists.{same, span, any, all, first, last, joined}
 use Rattle.text.specs.Class.{keyByte, groupByte, blankByte, valueByte, textByte}
 use Rattle.text.specs.Utf8.{lead, step, textFault}
 use Rattle.text.specs.Escape.{textEscape, escape, textFrom, readText, escaped, escapedAll, rawText, fitText, writeText}
-use Rattle.text.specs.Element.{rawElements, eachRead, elementsOf}
+use Rattle.text.specs.Element.{rawElements, eachRead, elementsOf, readElements}
 use Rattle.line.specs.Locale.{marked, parts, emptyPart, isLocale}
 use Rattle.line.specs.Name.{postfixAt, readName}
 use Rattle.line.specs.Line.{entryAfter, readEntry, readHeader, readLine}
 use Rattle.line.specs.Form.{groupForm, plainForm, keyForm, localeForm}
 use Rattle.record.specs.Number.{littleEndian, numberOf}
-use Rattle.record.specs.Record.{headBytes, recordBytes, cutAfter, bodiesOf, readList}
+use Rattle.record.specs.Record.{headBytes, recordBytes, listBytes, listOf, cutAfter, bodiesOf, readList}
 use Rattle.rows.specs.Rows.{rows, lineOf, ended, rowsFrom, readRows, rawValue}
 use Rattle.rows.specs.Title.{title, sameTitle, findRow}
 use Rattle.wellformed.specs.Check.{titleFault, earliest, plainOf, noPlain, titledAs, plainAll, checkAs}
@@ -25,20 +25,20 @@ use Rattle.command.specs.Words.{quoteLength, wordLength, wordsAfter}
 use Rattle.command.specs.Codes.{reserved, unquotedByte, needsBackslash, quotedByte, standsIn, codePiece, codeIn}
 use Rattle.command.specs.Command.{pieceOf, widthOf, piecesAfter, formOf, argumentOf, pieceFault, piecesFault, quotedFault, wordFault, wordsFault, readCommand}
 use Rattle.exec.specs.Run.{pieceBytes, piecesBytes, leavesNothing, iconArguments, expanded, expandedAll, runs}
-use Rattle.exec.specs.Expand.{noZero, fitItem, fitLocation, askedItems, nameText, iconText, runArguments, groupArguments}
+use Rattle.exec.specs.Expand.{noZero, fitItem, fitLocation, askedItems, nameText, iconText, runArguments, groupArguments, expand}
 use Rattle.demands.specs.Examples.{ExamplesHold}
 
 pub examples-hold : ExamplesHold
 unfolding same span any all first last keyByte groupByte blankByte valueByte textByte lead step textFault
-    textEscape escape textFrom readText escaped escapedAll rawText fitText writeText rawElements eachRead elementsOf
+    textEscape escape textFrom readText escaped escapedAll rawText fitText writeText rawElements eachRead elementsOf readElements
     marked parts emptyPart isLocale postfixAt readName entryAfter readEntry readHeader readLine groupForm plainForm keyForm localeForm
     rows lineOf rowsFrom readRows title sameTitle findRow titleFault earliest plainOf noPlain titledAs plainAll checkAs
     stripped plainLocale candidates firstKey chosen valueEnds lookup choose
-    littleEndian numberOf headBytes recordBytes cutAfter ended rawValue spliced replaced bufferWith inserting setEdit editOf
+    littleEndian numberOf headBytes recordBytes listBytes listOf cutAfter ended rawValue spliced replaced bufferWith inserting setEdit editOf
     editRecord readEdits partedAt readJournal lengthsFit opened request
     joined bodiesOf readList quoteLength wordLength wordsAfter
     reserved unquotedByte needsBackslash quotedByte standsIn codePiece codeIn
     pieceOf widthOf piecesAfter formOf argumentOf pieceFault piecesFault quotedFault wordFault wordsFault readCommand
     pieceBytes piecesBytes leavesNothing iconArguments expanded expandedAll runs
-    noZero fitItem fitLocation askedItems nameText iconText runArguments groupArguments
+    noZero fitItem fitLocation askedItems nameText iconText runArguments groupArguments expand
 examples-hold = refl

@@ -5,14 +5,13 @@ use mathlib.Core.List.{List, [], _∷_, _++_, map}
 use lib.ListN.{length, take, replicate}
 use Rattle.base.specs.Lists.{ascii}
 use Rattle.fault.specs.Table.{numberOf, placeOf}
-use Rattle.fault.specs.Answer.{Answer, given, refused, _>>=_}
+use Rattle.fault.specs.Answer.{Answer, given, refused}
 use Rattle.text.specs.Escape.{readText, writeText}
-use Rattle.text.specs.Element.{elementsOf}
+use Rattle.text.specs.Element.{readElements}
 use Rattle.wellformed.specs.Check.{check}
 use Rattle.entry.specs.Lookup.{Extent, lookup, partOf}
-use Rattle.rows.specs.Rows.{readRows}
 use Rattle.entry.specs.Choose.{choose}
-use Rattle.exec.specs.Expand.{askedItems, groupArguments}
+use Rattle.exec.specs.Expand.{expand}
 use Rattle.change.specs.Change.{Set}
 use Rattle.edit.specs.Calls.{request}
 use Rattle.demands.specs.Demand3.{startState}
@@ -57,9 +56,9 @@ nameFor locale entries =
     let f : List ℕ = file (ascii "[Desktop Entry]" ∷ entries) in
     shown (λ (e : Extent). partOf f (given e) ∷ []) (choose f (ascii "Desktop Entry") (ascii "Name") locale)
 
--- the elements of a raw value
+-- the elements of a raw value, as records
 abbrev pub elements : List ℕ → Shown
-elements raw = shown (λ es. es) (elementsOf raw)
+elements raw = shown (λ out. out ∷ []) (readElements raw)
 
 -- the text of a raw value, and the raw value of a text
 abbrev pub reads : List ℕ → Shown
@@ -74,11 +73,13 @@ setName text =
     shown (λ t. (t .size ∷ []) ∷ t .file ∷ take (t .used) (t .journal) ∷ [])
     (request (startState fileT [] (replicate 26 0)) (Set (ascii "Desktop Entry") (ascii "Name") text))
 
--- the arguments of run 0 of an Exec with this raw value, without files
+-- the arguments of run 0 of an Exec with this raw value, without files, as records
 abbrev pub expands : List ℕ → Shown
-expands raw =
-    let f : List ℕ = file (ascii "[Desktop Entry]" ∷ (ascii "Exec=" ++ raw) ∷ []) in
-    shown (λ args. args) (askedItems f [] [] [] >>= λ items. groupArguments (readRows f) (ascii "Desktop Entry") [] [] items 0)
+expands raw = shown (λ out. out ∷ []) (expand (file (ascii "[Desktop Entry]" ∷ (ascii "Exec=" ++ raw) ∷ [])) [] [] [] 0)
+
+-- the bytes of a record under 256 bytes: its whole length, its kind, its own bytes
+abbrev pub recordOf : ℕ → ℕ → List ℕ → List ℕ
+recordOf size kind body = size ∷ 0 ∷ 0 ∷ 0 ∷ kind ∷ 0 ∷ body
 
 -- the table
 abbrev pub examples : List Example
@@ -88,9 +89,9 @@ examples =
     ∷ record { asked = Gives ((length fileT ∷ []) ∷ []); expected = Gives ((71 ∷ []) ∷ []) }
     ∷ record { asked = nameIn (ascii "Name = X"); expected = Gives (ascii "X" ∷ []) }
     ∷ record { asked = nameIn (ascii "Name="); expected = Gives ([] ∷ []) }
-    ∷ record { asked = elements (ascii "a\\;b;;"); expected = Gives (ascii "a;b" ∷ [] ∷ []) }
-    ∷ record { asked = elements (ascii ";"); expected = Gives ([] ∷ []) }
-    ∷ record { asked = elements []; expected = Gives [] }
+    ∷ record { asked = elements (ascii "a\\;b;;"); expected = Gives ((recordOf 9 2 (ascii "a;b") ++ recordOf 6 2 []) ∷ []) }
+    ∷ record { asked = elements (ascii ";"); expected = Gives (recordOf 6 2 [] ∷ []) }
+    ∷ record { asked = elements []; expected = Gives ([] ∷ []) }
     ∷ record {
       asked = nameFor (ascii "sr_YU@Latn") (ascii "Name=Foo" ∷ ascii "Name[sr_YU]=a" ∷ ascii "Name[sr@Latn]=b" ∷ ascii "Name[sr]=c" ∷ []);
       expected = Gives (ascii "a" ∷ []);
@@ -107,9 +108,9 @@ examples =
     }
     ∷ record { asked = expands (ascii "view \"%f\""); expected = Refuses 16 6 }
     ∷ record { asked = expands (ascii "view %f %u"); expected = Refuses 16 8 }
-    ∷ record { asked = expands (ascii "view \"a\\\\$b\""); expected = Gives (ascii "view" ∷ ascii "a$b" ∷ []) }
-    ∷ record { asked = expands (ascii "view --x=%f"); expected = Gives (ascii "view" ∷ ascii "--x=" ∷ []) }
-    ∷ record { asked = expands (ascii "view %f"); expected = Gives (ascii "view" ∷ []) }
+    ∷ record { asked = expands (ascii "view \"a\\\\$b\""); expected = Gives ((recordOf 10 3 (ascii "view") ++ recordOf 9 3 (ascii "a$b")) ∷ []) }
+    ∷ record { asked = expands (ascii "view --x=%f"); expected = Gives ((recordOf 10 3 (ascii "view") ++ recordOf 10 3 (ascii "--x=")) ∷ []) }
+    ∷ record { asked = expands (ascii "view %f"); expected = Gives (recordOf 10 3 (ascii "view") ∷ []) }
     ∷ []
 
 -- the claim: what is asked is what is expected, row by row

@@ -5,43 +5,136 @@ use crate::report::say_number;
 use crate::report::tell_records;
 ghost use Prim.Native.Nat.{_≤_};
 
-fn expand_into(file: &[u8], list: &[u8], run: usize, out: &mut [u8]) {
+fn expand_into(
+    file: &[u8],
+    locale: &[u8],
+    location: &[u8],
+    list: &[u8],
+    run: usize,
+    out: &mut [u8],
+) {
     say(b"expand run ");
     say_number(run);
     say(b" of ");
     quote(file);
+    say(b" for ");
+    quote(locale);
+    say(b" at ");
+    quote(location);
     say(b" with the list ");
     quote(list);
     say(b" into ");
     say_number(out.len());
     say(b" bytes");
-    let w = exec::expand(file, b"", b"", list, run, out);
+    let w = exec::expand(file, locale, location, list, run, out);
     tell_records(w, out);
 }
 
-fn expand(file: &[u8], list: &[u8], run: usize, room: usize)
-    requires { ⌜ room ≤ 40 ⌝ }
+fn expand(file: &[u8], locale: &[u8], location: &[u8], list: &[u8], run: usize, room: usize)
+    requires { ⌜ room ≤ 68 ⌝ }
 {
-    let mut out = [b'.'; 40];
-    expand_into(file, list, run, &mut out[0..room]);
+    let mut out = [b'.'; 68];
+    expand_into(file, locale, location, list, run, &mut out[0..room]);
+}
+
+// For no locale, at no location.
+fn expand_plain(file: &[u8], list: &[u8], run: usize, room: usize)
+    requires { ⌜ room ≤ 68 ⌝ }
+{
+    expand(file, b"", b"", list, run, room);
+}
+
+// For German, at a location.
+fn expand_german(file: &[u8], list: &[u8], run: usize, room: usize)
+    requires { ⌜ room ≤ 68 ⌝ }
+{
+    expand(file, b"de", b"/t.desktop", list, run, room);
+}
+
+// The same with no files.
+fn put_in(file: &[u8], room: usize)
+    requires { ⌜ room ≤ 68 ⌝ }
+{
+    expand_german(file, b"", 0, room);
+}
+
+// With no files, for no locale, at no location.
+fn read_command(file: &[u8]) {
+    expand_plain(file, b"", 0, 24);
 }
 
 pub fn expansions(t: &[u8]) {
     let one = b"\x07\x00\x00\x00\x02\x00a";
-    expand(t, one, 0, 17);
-    expand(t, one, 0, 16);
-    expand(t, one, 1, 17);
-    expand(t, b"", 0, 10);
-    expand(t, b"\x07", 0, 10);
-    let spaced = b"\x09\x00\x00\x00\x02\x00a b\x08\x00\x00\x00\x02\x00%f";
-    expand(b"[Desktop Entry]\nExec=view -- %f\n", spaced, 0, 40);
-    expand(b"[Desktop Entry]\nExec=view -- %f\n", spaced, 1, 40);
-    expand(b"[Desktop Entry]\nExec=view -- %f\n", spaced, 2, 40);
+    expand_plain(t, one, 0, 17);
+    expand_plain(t, one, 0, 16);
+    expand_plain(t, one, 1, 17);
+    expand_plain(t, b"", 0, 10);
+    expand_plain(t, b"\x07", 0, 10);
+    let two = b"\x0d\x00\x00\x00\x02\x00a b.txt\x0d\x00\x00\x00\x02\x00c%f.txt";
+    expand_german(b"[Desktop Entry]\nExec=view -- %f\n", two, 0, 40);
+    expand_german(b"[Desktop Entry]\nExec=view -- %f\n", two, 1, 40);
+    expand_german(b"[Desktop Entry]\nExec=view -- %f\n", two, 2, 40);
+    expand_german(b"[Desktop Entry]\nExec=view %F\n", two, 0, 40);
+    expand_german(b"[Desktop Entry]\nExec=view %F\n", two, 1, 40);
+    expand_german(
+        b"[Desktop Entry]\nExec=view %F\n",
+        b"\x06\x00\x00\x00\x02\x00",
+        0,
+        10,
+    );
+    expand_german(b"[Desktop Entry]\nName=X\n", b"", 0, 10);
 }
 
-pub fn refused_expansions() {
-    expand(b"[Desktop Entry]\nExec=view \"%f\"\n", b"", 0, 10);
-    expand(b"[Desktop Entry]\nExec=view %f %u\n", b"", 0, 10);
-    expand(b"[Desktop Entry]\nExec=view \"a$b\n", b"", 0, 10);
-    expand(b"[Desktop Entry]\nName=X\n", b"", 0, 10);
+// Name, Icon and the location.
+pub fn texts_put_in() {
+    put_in(b"[Desktop Entry]\nExec=view %d%f %k\n", 26);
+    put_in(
+        b"[Desktop Entry]\nName=N\nIcon=i\nExec=v %i %i \"\" %k%c%d%u\n",
+        68,
+    );
+    put_in(
+        b"[Desktop Entry]\nName=X\nName[de]=Y z\nIcon=a\nExec=view %i --n=%c\n",
+        42,
+    );
+    put_in(
+        b"[Desktop Entry]\nName=X\nIcon=a\nIcon[de]=\nExec=view %i %c\n",
+        24,
+    );
+    put_in(b"[Desktop Entry]\nIcon=\\q\nExec=view %i %c\n", 24);
+    put_in(b"[Desktop Entry]\nName=X\nIcon=a\\q\nExec=view %i %c\n", 24);
+}
+
+pub fn commands_read() {
+    read_command(b"[Desktop Entry]\nExec=view \"a\\\\$b\"\n");
+    read_command(b"[Desktop Entry]\nExec=view \"a\\\\\\\\\"\n");
+    read_command(b"[Desktop Entry]\nExec=view \"\" %%f\n");
+    read_command(b"[Desktop Entry]\nExec=view --x=%f\n");
+    read_command(b"[Desktop Entry]\nExec=view %f\n");
+    read_command(b"[Desktop Entry]\nExec=v \"a b\" x\n");
+    read_command(b"[Desktop Entry]\nExec=\\s v  %F \n");
+    read_command(b"[Desktop Entry]\nExec=%%\n");
+}
+
+pub fn refused_commands() {
+    read_command(b"[Desktop Entry]\nExec=\n");
+    read_command(b"[Desktop Entry]\nExec=\\s\\s\n");
+    read_command(b"[Desktop Entry]\nExec=a=b\n");
+    read_command(b"[Desktop Entry]\nExec=%F\n");
+    read_command(b"[Desktop Entry]\nExec=view%d\n");
+    read_command(b"[Desktop Entry]\nExec=view %f %u\n");
+    read_command(b"[Desktop Entry]\nExec=view %F'\n");
+    read_command(b"[Desktop Entry]\nExec=view %f'\n");
+    read_command(b"[Desktop Entry]\nExec=view %%f%%%\n");
+}
+
+pub fn refused_quotes() {
+    read_command(b"[Desktop Entry]\nExec=\"\"x\n");
+    read_command(b"[Desktop Entry]\nExec=view \"%f\"\n");
+    read_command(b"[Desktop Entry]\nExec=view \"a$b\n");
+    read_command(b"[Desktop Entry]\nExec=view \"a\\\\\"\n");
+    read_command(b"[Desktop Entry]\nExec=view \"a%\"\n");
+    read_command(b"[Desktop Entry]\nExec=view \"\\\\%\"\n");
+    read_command(b"[Desktop Entry]\nExec=view \"a\"%z\n");
+    read_command(b"[Desktop Entry]\nExec=view \"a\"\"b\"\n");
+    read_command(b"[Desktop Entry]\nExec=view \"a=\" b=\"\"\n");
 }

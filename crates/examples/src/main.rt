@@ -22,5 +22,8 @@ fn main() {
     texts::lists_read();
     edits::sets(t);
     commands::expansions(t);
-    commands::refused_expansions();
+    commands::texts_put_in();
+    commands::commands_read();
+    commands::refused_commands();
+    commands::refused_quotes();
 }

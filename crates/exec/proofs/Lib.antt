@@ -1,4 +1,3 @@
-pub mod Examples
 pub mod Spending
 pub mod Listing
 pub mod Arguments

@@ -1,6 +1,6 @@
 //! The report of the program `crates/examples`, made from the reference's answers. The questions are written here again.
 
-use crate::common::{with_header, T};
+use crate::common::{records, with_header, T};
 use reference::{
     check, choose, complete, expand, lookup, read_list, read_text, set, write_text, Refusal, State,
 };
@@ -125,14 +125,23 @@ fn sets_name(room: usize) -> String {
     )
 }
 
-/// A run of a file's Exec, with a list of files, into so many bytes.
-fn expands(file: &[u8], list: &[u8], run: u64, room: usize) -> String {
+/// A run of a file's Exec for a locale at a location, with a list of files, into so many bytes.
+fn expands(
+    file: &[u8],
+    locale: &[u8],
+    location: &[u8],
+    list: &[u8],
+    run: u64,
+    room: usize,
+) -> String {
     let mut out = vec![b'.'; room];
-    let answer = expand(file, b"", b"", list, run, &mut out);
+    let answer = expand(file, locale, location, list, run, &mut out);
     let answer = told(answer, |n| format!("{n} bytes"));
-    let (file, list) = (quote(file), quote(list));
+    let [file, locale, location, list] = [file, locale, location, list].map(quote);
     let out = digits(&out);
-    format!("expand run {run} of {file} with the list {list} into {room} bytes: {answer}, {out}")
+    format!(
+        "expand run {run} of {file} for {locale} at {location} with the list {list} into {room} bytes: {answer}, {out}"
+    )
 }
 
 fn edits() -> Vec<String> {
@@ -141,22 +150,66 @@ fn edits() -> Vec<String> {
 
 fn commands() -> Vec<String> {
     let one = b"\x07\0\0\0\x02\0a";
-    let spaced = b"\x09\0\0\0\x02\0a b\x08\0\0\0\x02\0%f";
-    let item = with_header(b"Exec=view -- %f\n");
-    let refused = |entry: &[u8]| expands(&with_header(entry), b"", 0, 10);
+    let two = records(2, &["a b.txt", "c%f.txt"]);
+    let plain = |list: &[u8], run, room| expands(T, b"", b"", list, run, room);
+    let german = |entries: &[u8], list: &[u8], run, room| {
+        let file = with_header(entries);
+        expands(&file, b"de", b"/t.desktop", list, run, room)
+    };
+    let command = |exec: &[u8]| {
+        let file = with_header(&[b"Exec=", exec, b"\n"].concat());
+        expands(&file, b"", b"", b"", 0, 24)
+    };
     vec![
-        expands(T, one, 0, 17),
-        expands(T, one, 0, 16),
-        expands(T, one, 1, 17),
-        expands(T, b"", 0, 10),
-        expands(T, b"\x07", 0, 10),
-        expands(&item, spaced, 0, 40),
-        expands(&item, spaced, 1, 40),
-        expands(&item, spaced, 2, 40),
-        refused(b"Exec=view \"%f\"\n"),
-        refused(b"Exec=view %f %u\n"),
-        refused(b"Exec=view \"a$b\n"),
-        refused(b"Name=X\n"),
+        plain(one, 0, 17),
+        plain(one, 0, 16),
+        plain(one, 1, 17),
+        plain(b"", 0, 10),
+        plain(b"\x07", 0, 10),
+        german(b"Exec=view -- %f\n", &two, 0, 40),
+        german(b"Exec=view -- %f\n", &two, 1, 40),
+        german(b"Exec=view -- %f\n", &two, 2, 40),
+        german(b"Exec=view %F\n", &two, 0, 40),
+        german(b"Exec=view %F\n", &two, 1, 40),
+        german(b"Exec=view %F\n", &records(2, &[""]), 0, 10),
+        german(b"Name=X\n", b"", 0, 10),
+        german(b"Exec=view %d%f %k\n", b"", 0, 26),
+        german(b"Name=N\nIcon=i\nExec=v %i %i \"\" %k%c%d%u\n", b"", 0, 68),
+        german(
+            b"Name=X\nName[de]=Y z\nIcon=a\nExec=view %i --n=%c\n",
+            b"",
+            0,
+            42,
+        ),
+        german(b"Name=X\nIcon=a\nIcon[de]=\nExec=view %i %c\n", b"", 0, 24),
+        german(b"Icon=\\q\nExec=view %i %c\n", b"", 0, 24),
+        german(b"Name=X\nIcon=a\\q\nExec=view %i %c\n", b"", 0, 24),
+        command(br#"view "a\\$b""#),
+        command(br#"view "a\\\\""#),
+        command(br#"view "" %%f"#),
+        command(b"view --x=%f"),
+        command(b"view %f"),
+        command(br#"v "a b" x"#),
+        command(br"\s v  %F "),
+        command(b"%%"),
+        command(b""),
+        command(br"\s\s"),
+        command(b"a=b"),
+        command(b"%F"),
+        command(b"view%d"),
+        command(b"view %f %u"),
+        command(b"view %F'"),
+        command(b"view %f'"),
+        command(b"view %%f%%%"),
+        command(br#"""x"#),
+        command(br#"view "%f""#),
+        command(br#"view "a$b"#),
+        command(br#"view "a\\""#),
+        command(br#"view "a%""#),
+        command(br#"view "\\%""#),
+        command(br#"view "a"%z"#),
+        command(br#"view "a""b""#),
+        command(br#"view "a=" b="""#),
     ]
 }
 
