@@ -106,6 +106,6 @@ demand3-of-exports = demand3-of ByExport defined
     defined : (s : State) (c : Call) (x : Told) (t : State) → ByExport s c x t → Defined s c x t
     defined _ _ _ _ (called {s} {c} m) =
         record {
-          tells = rw (m .code-is, m .place-is) (told-in (stateCall s c));
+          tells = rw (m .returned .code-is, m .returned .place-is) (told-in (stateCall s c));
           leaves = λ i. record { file = m .file-is i; size = m .size-is i; journal = m .journal-is i; used = m .used-is i; standing = m .standing-is i };
         }

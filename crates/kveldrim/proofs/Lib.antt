@@ -1,1 +1,1 @@
-pub mod Editing
+pub mod Telling

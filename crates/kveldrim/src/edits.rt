@@ -4,7 +4,7 @@ ghost use mathlib.Core.Path.{_≡_};
 ghost use Rattle.change.specs.Change.{Set, Remove};
 ghost use Rattle.edit.specs.Calls.{request, undo, redo};
 ghost use Rattle.edit.specs.Step.{lent, answered};
-ghost use Rattle.kveldrim.specs.Abi.{codeOf, placeIn, writtenIn, Called};
+ghost use Rattle.kveldrim.specs.Abi.{ReturnedNumbers, Called};
 
 // The answer of a call that edits.
 fn tell_edited(
@@ -14,10 +14,8 @@ fn tell_edited(
     standing: &mut u64,
     place: &mut u64,
 ) -> u32
-    ensures { λ r. ⌜ (r ≡ codeOf (answered e)) × (now (place .exit) ≡ placeIn (answered e))
-        × (now (size .exit) ≡ writtenIn (λ n. n .size) (answered e) (now (size .entry)))
-        × (now (used .exit) ≡ writtenIn (λ n. n .used) (answered e) (now (used .entry)))
-        × (now (standing .exit) ≡ writtenIn (λ n. n .standing) (answered e) (now (standing .entry))) ⌝ }
+    ensures { λ r. ⌜ ReturnedNumbers (answered e) r (now (place .exit)) (now (size .entry)) (now (size .exit)) (now (used .entry)) (now (used .exit))
+        (now (standing .entry)) (now (standing .exit)) ⌝ }
 {
     match e {
         Edited::Done {

@@ -6,7 +6,6 @@ use fault::Fault;
 use text::Written;
 use wellformed::Checked;
 ghost use mathlib.Core.Path.{_≡_};
-ghost use Prim.Native.Nat.{ℕ};
 ghost use Rattle.text.specs.Escape.{readText, writeText};
 ghost use Rattle.text.specs.Element.{readElements};
 ghost use Rattle.text.specs.Output.{answered, told, held};
@@ -16,7 +15,7 @@ ghost use Rattle.entry.specs.Choose.{choose};
 ghost use Rattle.entry.specs.Complete.{complete};
 ghost use Rattle.wellformed.specs.Check as check;
 ghost use Rattle.wellformed.specs.Pass as pass;
-ghost use Rattle.kveldrim.specs.Abi.{codeOf, placeIn, writtenIn};
+ghost use Rattle.kveldrim.specs.Abi.{Returned, ReturnedLength, ReturnedEnds};
 ghost use Rattle.fault.specs.Table.{numberOf, placeOf};
 
 // A refusal, as it is told.
@@ -29,8 +28,7 @@ fn refuse(f: Fault, place: &mut u64) -> u32
 
 // The answer of a call with an output.
 fn tell_written(w: Written, place: &mut u64, written: &mut u64) -> u32
-    ensures { λ r. ⌜ (r ≡ codeOf (answered w)) × (now (place .exit) ≡ placeIn (answered w))
-        × (now (written .exit) ≡ writtenIn (λ n. n) (answered w) (now (written .entry))) ⌝ }
+    ensures { λ r. ⌜ ReturnedLength (answered w) r (now (place .exit)) (now (written .entry)) (now (written .exit)) ⌝ }
 {
     match w {
         Written::Bytes(n) => {
@@ -44,7 +42,7 @@ fn tell_written(w: Written, place: &mut u64, written: &mut u64) -> u32
 
 // The answer of the check.
 fn tell_checked(c: Checked, place: &mut u64) -> u32
-    ensures { λ r. ⌜ (r ≡ codeOf (pass.answered c)) × (now (place .exit) ≡ placeIn (pass.answered c)) ⌝ }
+    ensures { λ r. ⌜ Returned (pass.answered c) r (now (place .exit)) ⌝ }
 {
     match c {
         Checked::Sound => {
@@ -57,23 +55,21 @@ fn tell_checked(c: Checked, place: &mut u64) -> u32
 
 #[no_mangle]
 pub extern "C" fn kveldrim_check(file: &[u8], place: &mut u64) -> u32
-    ensures { λ r. ⌜ (r ≡ codeOf (check.check (now (file .entry)))) × (now (place .exit) ≡ placeIn (check.check (now (file .entry)))) ⌝ }
+    ensures { λ r. ⌜ Returned (check.check (now (file .entry))) r (now (place .exit)) ⌝ }
 {
     tell_checked(wellformed::check(file), place)
 }
 
 #[no_mangle]
 pub extern "C" fn kveldrim_complete(file: &[u8], place: &mut u64) -> u32
-    ensures { λ r. ⌜ (r ≡ codeOf (complete (now (file .entry)))) × (now (place .exit) ≡ placeIn (complete (now (file .entry)))) ⌝ }
+    ensures { λ r. ⌜ Returned (complete (now (file .entry))) r (now (place .exit)) ⌝ }
 {
     tell_checked(entry::is_complete(file), place)
 }
 
 // The answer of a call that finds a value.
 fn tell_ends(e: Ends, place: &mut u64, from: &mut u64, to: &mut u64) -> u32
-    ensures { λ r. ⌜ (r ≡ codeOf (lookup.answered e)) × (now (place .exit) ≡ placeIn (lookup.answered e))
-        × (now (from .exit) ≡ writtenIn (λ x. x .from) (lookup.answered e) (now (from .entry)))
-        × (now (to .exit) ≡ writtenIn (λ x. x .to) (lookup.answered e) (now (to .entry))) ⌝ }
+    ensures { λ r. ⌜ ReturnedEnds (lookup.answered e) r (now (place .exit)) (now (from .entry)) (now (from .exit)) (now (to .entry)) (now (to .exit)) ⌝ }
 {
     match e {
         Ends::At { from: a, to: b } => {
@@ -95,10 +91,8 @@ pub extern "C" fn kveldrim_lookup(
     from: &mut u64,
     to: &mut u64,
 ) -> u32
-    ensures { λ r. ⌜ (r ≡ codeOf (lookup.lookup (now (file .entry)) (now (group .entry)) (now (key .entry))))
-        × (now (place .exit) ≡ placeIn (lookup.lookup (now (file .entry)) (now (group .entry)) (now (key .entry))))
-        × (now (from .exit) ≡ writtenIn (λ x. x .from) (lookup.lookup (now (file .entry)) (now (group .entry)) (now (key .entry))) (now (from .entry)))
-        × (now (to .exit) ≡ writtenIn (λ x. x .to) (lookup.lookup (now (file .entry)) (now (group .entry)) (now (key .entry))) (now (to .entry))) ⌝ }
+    ensures { λ r. ⌜ ReturnedEnds (lookup.lookup (now (file .entry)) (now (group .entry)) (now (key .entry)))
+        r (now (place .exit)) (now (from .entry)) (now (from .exit)) (now (to .entry)) (now (to .exit)) ⌝ }
 {
     tell_ends(entry::lookup_ends(file, group, key), place, from, to)
 }
@@ -113,10 +107,8 @@ pub extern "C" fn kveldrim_choose(
     from: &mut u64,
     to: &mut u64,
 ) -> u32
-    ensures { λ r. ⌜ (r ≡ codeOf (choose (now (file .entry)) (now (group .entry)) (now (key .entry)) (now (locale .entry))))
-        × (now (place .exit) ≡ placeIn (choose (now (file .entry)) (now (group .entry)) (now (key .entry)) (now (locale .entry))))
-        × (now (from .exit) ≡ writtenIn (λ x. x .from) (choose (now (file .entry)) (now (group .entry)) (now (key .entry)) (now (locale .entry))) (now (from .entry)))
-        × (now (to .exit) ≡ writtenIn (λ x. x .to) (choose (now (file .entry)) (now (group .entry)) (now (key .entry)) (now (locale .entry))) (now (to .entry))) ⌝ }
+    ensures { λ r. ⌜ ReturnedEnds (choose (now (file .entry)) (now (group .entry)) (now (key .entry)) (now (locale .entry)))
+        r (now (place .exit)) (now (from .entry)) (now (from .exit)) (now (to .entry)) (now (to .exit)) ⌝ }
 {
     tell_ends(
         entry::choose_ends(file, group, key, locale),
@@ -133,9 +125,8 @@ pub extern "C" fn kveldrim_read_text(
     place: &mut u64,
     written: &mut u64,
 ) -> u32
-    ensures told { λ r. ⌜ (r ≡ codeOf (told (readText (now (raw .entry))) (now (out .entry))))
-        × (now (place .exit) ≡ placeIn (told (readText (now (raw .entry))) (now (out .entry))))
-        × (now (written .exit) ≡ writtenIn (λ n. n) (told (readText (now (raw .entry))) (now (out .entry))) (now (written .entry))) ⌝ }
+    ensures told { λ r. ⌜ ReturnedLength (told (readText (now (raw .entry))) (now (out .entry)))
+        r (now (place .exit)) (now (written .entry)) (now (written .exit)) ⌝ }
     ensures output { λ _. ⌜ now (out .exit) ≡ held (readText (now (raw .entry))) (now (out .entry)) ⌝ }
 {
     tell_written(text::read_text(raw, out), place, written)
@@ -148,9 +139,8 @@ pub extern "C" fn kveldrim_write_text(
     place: &mut u64,
     written: &mut u64,
 ) -> u32
-    ensures told { λ r. ⌜ (r ≡ codeOf (told (writeText (now (text .entry))) (now (out .entry))))
-        × (now (place .exit) ≡ placeIn (told (writeText (now (text .entry))) (now (out .entry))))
-        × (now (written .exit) ≡ writtenIn (λ n. n) (told (writeText (now (text .entry))) (now (out .entry))) (now (written .entry))) ⌝ }
+    ensures told { λ r. ⌜ ReturnedLength (told (writeText (now (text .entry))) (now (out .entry)))
+        r (now (place .exit)) (now (written .entry)) (now (written .exit)) ⌝ }
     ensures output { λ _. ⌜ now (out .exit) ≡ held (writeText (now (text .entry))) (now (out .entry)) ⌝ }
 {
     tell_written(text::write_text(text, out), place, written)
@@ -163,9 +153,8 @@ pub extern "C" fn kveldrim_read_list(
     place: &mut u64,
     written: &mut u64,
 ) -> u32
-    ensures told { λ r. ⌜ (r ≡ codeOf (told (readElements (now (raw .entry))) (now (out .entry))))
-        × (now (place .exit) ≡ placeIn (told (readElements (now (raw .entry))) (now (out .entry))))
-        × (now (written .exit) ≡ writtenIn (λ n. n) (told (readElements (now (raw .entry))) (now (out .entry))) (now (written .entry))) ⌝ }
+    ensures told { λ r. ⌜ ReturnedLength (told (readElements (now (raw .entry))) (now (out .entry)))
+        r (now (place .exit)) (now (written .entry)) (now (written .exit)) ⌝ }
     ensures output { λ _. ⌜ now (out .exit) ≡ held (readElements (now (raw .entry))) (now (out .entry)) ⌝ }
 {
     tell_written(text::read_list(raw, out), place, written)
@@ -182,9 +171,8 @@ pub extern "C" fn kveldrim_expand(
     place: &mut u64,
     written: &mut u64,
 ) -> u32
-    ensures told { λ r. ⌜ (r ≡ codeOf (told (expand (now (file .entry)) (now (locale .entry)) (now (location .entry)) (now (list .entry)) run) (now (out .entry))))
-        × (now (place .exit) ≡ placeIn (told (expand (now (file .entry)) (now (locale .entry)) (now (location .entry)) (now (list .entry)) run) (now (out .entry))))
-        × (now (written .exit) ≡ writtenIn (λ n. n) (told (expand (now (file .entry)) (now (locale .entry)) (now (location .entry)) (now (list .entry)) run) (now (out .entry))) (now (written .entry))) ⌝ }
+    ensures told { λ r. ⌜ ReturnedLength (told (expand (now (file .entry)) (now (locale .entry)) (now (location .entry)) (now (list .entry)) run) (now (out .entry)))
+        r (now (place .exit)) (now (written .entry)) (now (written .exit)) ⌝ }
     ensures output { λ _. ⌜ now (out .exit) ≡ held (expand (now (file .entry)) (now (locale .entry)) (now (location .entry)) (now (list .entry)) run) (now (out .entry)) ⌝ }
 {
     let n = run as usize;

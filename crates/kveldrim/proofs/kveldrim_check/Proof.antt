@@ -1,4 +1,5 @@
 -- `kveldrim_check` meets its contract: it is the call. Assumes nothing.
+use Rattle.kveldrim.proofs.Telling.{same-returned}
 use borrow.Author.Needs.{needs}
 use Rattle.kveldrim.proofs.kveldrim_check.Statement.{statement}
 use Rattle.kveldrim.proofs.kveldrim_check.Tie as tie
@@ -9,4 +10,4 @@ kveldrim-check-spec =
     (tie.spec
     (λ c κs. search needs)
     (λ c κs. search needs)
-    (λ c. (cc, cc)))
+    (λ c. search same-returned))

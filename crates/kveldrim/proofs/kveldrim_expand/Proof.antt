@@ -1,4 +1,5 @@
 -- `kveldrim_expand` meets its contract: it is the call. Assumes nothing.
+use Rattle.kveldrim.proofs.Telling.{same-length}
 use borrow.Author.Needs.{needs}
 use Rattle.kveldrim.proofs.kveldrim_expand.Statement.{statement}
 use Rattle.kveldrim.proofs.kveldrim_expand.Tie as tie
@@ -10,4 +11,4 @@ kveldrim-expand-spec =
     (λ c κs. search needs)
     (λ c κs. search needs)
     (λ c. search needs)
-    (λ c. let r = c .before .before .before .before .before in (rw (← r .expand .ensures .0) (c .tell-written .ensures), r .expand .ensures .1)))
+    (λ c. (search same-length, search needs)))

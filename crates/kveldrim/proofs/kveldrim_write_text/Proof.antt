@@ -1,4 +1,5 @@
 -- `kveldrim_write_text` meets its contract: it is the call. Assumes nothing.
+use Rattle.kveldrim.proofs.Telling.{same-length}
 use borrow.Author.Needs.{needs}
 use Rattle.kveldrim.proofs.kveldrim_write_text.Statement.{statement}
 use Rattle.kveldrim.proofs.kveldrim_write_text.Tie as tie
@@ -10,4 +11,4 @@ kveldrim-write-text-spec =
     (λ c κs. search needs)
     (λ c κs. search needs)
     (λ c. search needs)
-    (λ c. ((cc, cc, cc), cc)))
+    (λ c. (search same-length, search needs)))

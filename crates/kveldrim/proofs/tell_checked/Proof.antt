@@ -11,4 +11,4 @@ tell-checked-spec =
     (λ c. search needs)
     (λ c κs. search needs)
     (λ c. search needs)
-    (λ c. rw (c .before .before .before .c .given .1) (c .refuse .ensures)))
+    (λ c. rw (c .before .before .before .c .given .1) (record { code-is = c .refuse .ensures .0; place-is = c .refuse .ensures .1 })))

@@ -12,4 +12,4 @@ tell-ends-spec =
     (λ c. search needs)
     (λ c κs. search needs)
     (λ c. search needs)
-    (λ c. rw (c .before .before .before .e2 .given .1) (c .refuse .ensures .0, c .refuse .ensures .1, refl, refl)))
+    (λ c. rw (c .before .before .before .e2 .given .1) (record { returned = record { code-is = c .refuse .ensures .0; place-is = c .refuse .ensures .1 }; from-is = refl; to-is = refl })))

@@ -4,12 +4,6 @@ use borrow.Author.Needs.{needs}
 use Rattle.kveldrim.proofs.edits.tell_edited.Statement.{statement}
 use Rattle.kveldrim.proofs.edits.tell_edited.Tie as tie
 
-returns : tie.Need-returns
-returns c = rw (c .before .e .given .1) (refl, refl, refl, refl, refl)
-
-returns-2 : tie.Need-returns-2
-returns-2 c = rw (c .before .before .before .e2 .given .1) (c .refuse .ensures .0, c .refuse .ensures .1, refl, refl, refl)
-
 pub tell-edited-spec : {M : Type 1} → statement M
 tell-edited-spec =
     tie.close
@@ -17,5 +11,5 @@ tell-edited-spec =
     (λ c. search needs)
     (λ c. search needs)
     (λ c κs. search needs)
-    returns
-    returns-2)
+    (λ c. rw (c .before .e .given .1) (record { returned = record { code-is = refl; place-is = refl }; size-is = refl; used-is = refl; standing-is = refl }))
+    (λ c. rw (c .before .before .before .e2 .given .1) (record { returned = record { code-is = c .refuse .ensures .0; place-is = c .refuse .ensures .1 }; size-is = refl; used-is = refl; standing-is = refl })))

@@ -1,0 +1,57 @@
+-- What a C program sees of a call, from what the call answers and leaves. Assumes nothing.
+use mathlib.Core.Path.{_≡_, refl, ap, _∙_}
+use Prim.Native.Nat.{ℕ}
+use mathlib.Core.List.{List}
+use Rattle.fault.specs.Answer.{Answer, given, refused}
+use Rattle.entry.specs.Lookup.{Extent}
+use Rattle.edit.specs.Calls.{State, atExit}
+use Rattle.edit.specs.Step.{Numbers, answered, told, Made}
+use Rattle.edit.specs.declared.Edited.{Edited}
+use Rattle.kveldrim.specs.Abi.{codeOf, placeIn, writtenIn, Returned, ReturnedLength, ReturnedEnds, ReturnedNumbers, Called}
+
+-- ---- the same is seen of equal answers
+
+pub same-returned : {A : Type 0} {a b : Answer A} {code place : ℕ} → a ≡ b → Returned a code place → Returned b code place
+same-returned e t = rw e at t
+
+pub same-length : {a b : Answer ℕ} {code place written₀ written : ℕ} → a ≡ b → ReturnedLength a code place written₀ written → ReturnedLength b code place written₀ written
+same-length e t = rw e at t
+
+pub same-ends : {a b : Answer Extent} {code place from₀ from to₀ to : ℕ} → a ≡ b → ReturnedEnds a code place from₀ from to₀ to → ReturnedEnds b code place from₀ from to₀ to
+same-ends e t = rw e at t
+
+-- ---- a call that edits
+
+-- an answer's numbers tell the same code and place
+code-told : (a : Answer State) → codeOf (told a) ≡ codeOf a
+code-told (given s) = refl
+code-told (refused f) = refl
+
+place-told : (a : Answer State) → placeIn (told a) ≡ placeIn a
+place-told (given s) = refl
+place-told (refused f) = refl
+
+size-told : (s : State) (a : Answer State) → writtenIn (λ n. n .size) (told a) (s .size) ≡ atExit s a .size
+size-told s (given t) = refl
+size-told s (refused f) = refl
+
+used-told : (s : State) (a : Answer State) → writtenIn (λ n. n .used) (told a) (s .used) ≡ atExit s a .used
+used-told s (given t) = refl
+used-told s (refused f) = refl
+
+standing-told : (s : State) (a : Answer State) → writtenIn (λ n. n .standing) (told a) (s .standing) ≡ atExit s a .standing
+standing-told s (given t) = refl
+standing-told s (refused f) = refl
+
+pub called : {s : State} {a : Answer State} {e : Edited} {code place size used standing : ℕ} {file journal : List ℕ} → Made s a e file journal
+    → ReturnedNumbers (answered e) code place (s .size) size (s .used) used (s .standing) standing → Called s a code place size used standing file journal
+called {s} {a} {e} {code} {place} {size} {used} {standing} m t =
+    let n : ReturnedNumbers (told a) code place (s .size) size (s .used) used (s .standing) standing = rw (m .answer) at t in
+    record {
+      returned = record { code-is = n .returned .code-is ∙ code-told a; place-is = n .returned .place-is ∙ place-told a };
+      size-is = n .size-is ∙ size-told s a;
+      used-is = n .used-is ∙ used-told s a;
+      standing-is = n .standing-is ∙ standing-told s a;
+      file-is = m .file-is;
+      journal-is = m .journal-is;
+    }
