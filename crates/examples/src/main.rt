@@ -22,8 +22,5 @@ fn main() {
     texts::lists_read();
     edits::sets(t);
     commands::expansions(t);
-    commands::texts_put_in();
     commands::commands_read();
-    commands::refused_commands();
-    commands::refused_quotes();
 }
