@@ -329,4 +329,4 @@ unfolding Demand3
 demand3 start rest journal calls h =
     let a = agrees calls (startState start rest journal) (startBook start (length (start ++ rest)) (length journal)) (start-rep start rest journal h) in
     let r = a .rep-after in
-    (a .tells-all, r .text, r .standing ∙ sym (past-lengths _ _ _ _ (r .stood)))
+    record { tells = a .tells-all; file-is = r .text; standing-is = r .standing ∙ sym (past-lengths _ _ _ _ (r .stood)) }

@@ -44,7 +44,7 @@ module _ (step : State → Call → Told → State → Type 0) (defined : (s : S
   demand3-of start rest journal calls tolds s h k =
       let w = follows k in
       let d = demand3 start rest journal calls h in
-      (w .told-is ∙ d .0, ap content (w .left-is) ∙ d .1, ap (λ (t : State). t .standing) (w .left-is) ∙ d .2)
+      record { tells = w .told-is ∙ d .tells; file-is = ap content (w .left-is) ∙ d .file-is; standing-is = ap (λ (t : State). t .standing) (w .left-is) ∙ d .standing-is }
 
 -- ---- the functions of `edit`
 

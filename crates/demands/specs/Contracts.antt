@@ -7,13 +7,13 @@ use mathlib.Core.List.{List, [], _∷_, _++_}
 use lib.ListN.{length}
 use Rattle.fault.specs.Table.{numberOf, placeOf}
 use Rattle.wellformed.specs.WellFormed.{wellFormed}
-use Rattle.edit.specs.Calls.{State, content}
+use Rattle.edit.specs.Calls.{State}
 use Rattle.edit.specs.Step.{lent, Made}
 use Rattle.edit.specs.declared.Edited.{Edited}
 use Rattle.edit.specs.declared.Edited.the-variants as edited
 use Rattle.kveldrim.specs.Abi.{Called}
-use Rattle.demands.specs.Book.{Call, Book, bookFile, bookStanding, bookCall}
-use Rattle.demands.specs.Demand3.{stateCall, Told, Accepted, Refused, toldOver, leftBy, startState, startBook}
+use Rattle.demands.specs.Book.{Call}
+use Rattle.demands.specs.Demand3.{stateCall, Told, Accepted, Refused, startState, startBook, AsInTheBook}
 
 -- Calls in turn on the same buffers: what is lent at first, the calls, what each told, and what is lent at last. `step s c x t` says that the
 -- call c, lent s, told x and left t.
@@ -24,11 +24,7 @@ pub data Chain (step : State → Call → Told → State → Type 0) : State →
 -- demand 3 of every chain of such calls, from any well-formed file and an empty journal
 abbrev pub Demand3Of : (State → Call → Told → State → Type 0) → Type 0
 Demand3Of step = (start rest journal : List ℕ) (calls : List Call) (tolds : List Told) (s : State) → wellFormed start ≡ true
-    → Chain step (startState start rest journal) calls tolds s →
-    let b : Book = startBook start (length (start ++ rest)) (length journal) in
-    (tolds ≡ toldOver bookCall b calls)
-    × (content s ≡ bookFile (leftBy bookCall b calls))
-    × (s .standing ≡ bookStanding (leftBy bookCall b calls))
+    → Chain step (startState start rest journal) calls tolds s → AsInTheBook (startBook start (length (start ++ rest)) (length journal)) calls tolds s
 
 -- what an answer tells
 abbrev pub toldBy : Edited → Told

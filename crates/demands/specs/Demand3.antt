@@ -44,12 +44,14 @@ startState start rest journal = record { file = start ++ rest; size = length sta
 abbrev pub startBook : List ℕ → ℕ → ℕ → Book
 startBook start fileRoom journalRoom = record { start = start; fileRoom = fileRoom; journalRoom = journalRoom; standing = []; waiting = [] }
 
--- Demand 3: from any well-formed file and an empty journal, over any list of calls, the buffers tell what the book tells, the file's bytes
--- are the book's file, and the standing number is the book's.
+-- over a list of calls the buffers told what the book tells, the file's bytes are the book's file, and the standing number is the book's
+pub record AsInTheBook (b : Book) (calls : List Call) (tolds : List Told) (s : State) : Type 0 where
+  pub tells : tolds ≡ toldOver bookCall b calls
+  pub file-is : content s ≡ bookFile (leftBy bookCall b calls)
+  pub standing-is : s .standing ≡ bookStanding (leftBy bookCall b calls)
+
+-- Demand 3: from any well-formed file and an empty journal, over any list of calls.
 unfoldable pub Demand3 : Type 0
 Demand3 = (start rest journal : List ℕ) (calls : List Call) → wellFormed start ≡ true →
     let s : State = startState start rest journal in
-    let b : Book = startBook start (length (start ++ rest)) (length journal) in
-    (toldOver stateCall s calls ≡ toldOver bookCall b calls)
-    × (content (leftBy stateCall s calls) ≡ bookFile (leftBy bookCall b calls))
-    × (leftBy stateCall s calls .standing ≡ bookStanding (leftBy bookCall b calls))
+    AsInTheBook (startBook start (length (start ++ rest)) (length journal)) calls (toldOver stateCall s calls) (leftBy stateCall s calls)

@@ -2,7 +2,7 @@
 use mathlib.Core.Path.{_≡_}
 use Prim.Native.Nat.{ℕ, _+_}
 use mathlib.Core.List.{List}
-use lib.ListN.{length, take}
+use lib.ListN.{length}
 use Rattle.base.specs.Over.{over}
 use Rattle.fault.specs.declared.Fault.the-variants.{Damaged, NoRoom, JournalFull}
 use Rattle.fault.specs.Answer.{Answer, given, refused, _>>=_, need, then}

@@ -3,7 +3,7 @@ use Prim.Native.Nat.{ℕ}
 use mathlib.Core.Bool.{_&&_}
 use mathlib.Core.List.{List}
 use Rattle.fault.specs.declared.Fault.the-variants.{BadArgument, Missing}
-use Rattle.fault.specs.Answer.{Answer, given, refused, _>>=_, need, some-or}
+use Rattle.fault.specs.Answer.{Answer, given, _>>=_, need, some-or}
 use Rattle.line.specs.Form.{groupForm, plainForm, localeForm}
 use Rattle.rows.specs.Rows.{Row, readRows}
 use Rattle.wellformed.specs.Check.{check}

@@ -1,11 +1,11 @@
 -- What a C program sees of a call, from what the call answers and leaves. Assumes nothing.
-use mathlib.Core.Path.{_≡_, refl, ap, _∙_}
+use mathlib.Core.Path.{_≡_, refl, _∙_}
 use Prim.Native.Nat.{ℕ}
 use mathlib.Core.List.{List}
 use Rattle.fault.specs.Answer.{Answer, given, refused}
 use Rattle.entry.specs.Lookup.{Extent}
 use Rattle.edit.specs.Calls.{State, atExit}
-use Rattle.edit.specs.Step.{Numbers, answered, told, Made}
+use Rattle.edit.specs.Step.{answered, told, Made}
 use Rattle.edit.specs.declared.Edited.{Edited}
 use Rattle.kveldrim.specs.Abi.{codeOf, placeIn, writtenIn, Returned, ReturnedLength, ReturnedEnds, ReturnedNumbers, Called}
 

@@ -1,6 +1,5 @@
 // The calls that edit. The three numbers go in and come out; a refusal leaves them and every lent byte.
 use edit::Edited;
-ghost use mathlib.Core.Path.{_≡_};
 ghost use Rattle.change.specs.Change.{Set, Remove};
 ghost use Rattle.edit.specs.Calls.{request, undo, redo};
 ghost use Rattle.edit.specs.Step.{lent, answered};
