@@ -117,6 +117,7 @@ fn icons_put_in() {
         b"[Desktop Entry]\nName=X\nIcon=a\nIcon[de]=\nExec=view %i %c\n",
         24,
     );
+    put_in(b"[Desktop Entry]\nExec=view %i\n", 24);
     put_in(b"[Desktop Entry]\nIcon=\\q\nExec=view %i %c\n", 24);
     put_in(b"[Desktop Entry]\nName=X\nIcon=a\\q\nExec=view %i %c\n", 24);
 }

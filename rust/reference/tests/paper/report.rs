@@ -182,6 +182,7 @@ fn commands() -> Vec<String> {
             42,
         ),
         german(b"Name=X\nIcon=a\nIcon[de]=\nExec=view %i %c\n", b"", 0, 24),
+        german(b"Exec=view %i\n", b"", 0, 24),
         german(b"Icon=\\q\nExec=view %i %c\n", b"", 0, 24),
         german(b"Name=X\nIcon=a\\q\nExec=view %i %c\n", b"", 0, 24),
         command(br#"view "a\\$b""#),
