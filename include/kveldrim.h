@@ -11,7 +11,8 @@
  * - A byte slice is a pointer and a length in bytes. No byte ends it: bytes are lent as they are, zeros too.
  *   An empty slice may have any pointer, NULL too. Lengths are at most PTRDIFF_MAX.
  * - The result is 0 if the call is accepted, else the number of the refusal (table below).
- * - *place is always written: 0 if accepted, else the refusal's place.
+ * - *place is always written: 0 if accepted, else the refusal's place. So is *byte, in the calls that are handed a file:
+ *   the byte in the line for refusal 2, else 0.
  * - Every other number is written only if the call is accepted.
  * - A refusal changes no byte that was lent. An accepted call writes to the start of its output; the rest keeps its bytes.
  *   What the calls that edit write is said below, under Edits.
@@ -22,50 +23,57 @@
  *
  * Example
  *
- *     uint64_t place, from, to;
+ *     uint64_t place, byte, from, to;
  *     uint32_t refused = kveldrim_lookup(file, file_len,
  *                                        (const uint8_t *) "Desktop Entry", 13, (const uint8_t *) "Name", 4,
- *                                        &place, &from, &to);
+ *                                        &place, &byte, &from, &to);
  *     if (refused == 0)
  *         fwrite(file + from, 1, to - from, stdout);
+ *     else if (refused == KVELDRIM_BAD_LINE)
+ *         fprintf(stderr, "line %llu is bad after %llu bytes\n", (unsigned long long) place, (unsigned long long) byte);
  *     else
  *         fprintf(stderr, "refused: %u at %llu\n", (unsigned) refused, (unsigned long long) place);
  *
  * Refusals
  *
- * A line counts from 1, an offset from 0. Where a place is not named it is 0.
+ * A line counts from 1, an offset and a byte in a line from 0. Where a place is not named it is 0.
  *
- *     number                   given when                                                         place
- *      1  KVELDRIM_TOO_LONG     the file is over 32,768 bytes                                      0
- *      2  KVELDRIM_BAD_LINE     a line is not blank, a comment, a header or an entry               line
+ *     number                   given when                                                         place              byte
+ *      1  KVELDRIM_TOO_LONG     the file is over 32,768 bytes                                      0                  0
+ *      2  KVELDRIM_BAD_LINE     a line is not blank, a comment, a header or an entry               line               the byte
  *      3  KVELDRIM_FIRST        the first line that is neither blank nor comment is not
- *                               [Desktop Entry]                                                    line
- *                               no header at all, only blank lines and comments                    0
- *      4  KVELDRIM_GROUP_TWICE  a group's name stands further up                                   the later line
- *      5  KVELDRIM_KEY_TWICE    a key with the same postfix stands further up in its group         the later line
- *      6  KVELDRIM_NO_PLAIN     a key has a postfix, but does not stand without one in its group   the earliest line
- *                               the same of a key about to be set                                  0
- *      7  KVELDRIM_FORM         a group, key or locale that was asked for is not of its form       0
- *      8  KVELDRIM_MISSING      no such group, key or run                                          0
- *      9  KVELDRIM_ESCAPE       unknown or unfinished escape                                       offset of its backslash
- *                                                                                                  in the raw value
- *     10  KVELDRIM_UNFIT        text that no value can hold                                        0
- *                               a list item or location that no argument can hold                  0
+ *                               [Desktop Entry]                                                    line               0
+ *                               no header at all, only blank lines and comments                    0                  0
+ *      4  KVELDRIM_GROUP_TWICE  a group's name stands further up                                   the later line     0
+ *      5  KVELDRIM_KEY_TWICE    a key with the same postfix stands further up in its group         the later line     0
+ *      6  KVELDRIM_NO_PLAIN     a key has a postfix, but does not stand without one in its group   the earliest line  0
+ *                               the same of a key about to be set                                  0                  0
+ *      7  KVELDRIM_FORM         a group, key or locale that was asked for is not of its form       0                  0
+ *      8  KVELDRIM_MISSING      no such group, key or run                                          0                  0
+ *      9  KVELDRIM_ESCAPE       unknown or unfinished escape                                       offset of its      0
+ *                                                                                                  backslash in the
+ *                                                                                                  raw value
+ *     10  KVELDRIM_UNFIT        text that no value can hold                                        0                  0
+ *                               a list item or location that no argument can hold                  0                  0
  *     11  KVELDRIM_NO_ROOM      the output is too small; the edited file is over its room or
- *                               32,768 bytes                                                       0
- *     12  KVELDRIM_NOTHING      nothing to undo or redo                                            0
+ *                               32,768 bytes                                                       0                  0
+ *     12  KVELDRIM_NOTHING      nothing to undo or redo                                            0                  0
  *     13  KVELDRIM_JOURNAL_FULL the bytes standing and the new record are over the journal's room
- *                               or 65,536 bytes                                                    0
+ *                               or 65,536 bytes                                                    0                  0
  *     14  KVELDRIM_DAMAGED      a length is over its room, used over 65,536 or standing over used;
  *                               the journal is damaged, or does not fit the file; a list is over
- *                               65,536 bytes or not filled by its records                          0
- *     15  KVELDRIM_BAD_EXEC     Exec is badly written                                              offset in the unescaped
- *                                                                                                  value
- *     16  KVELDRIM_BAD_CODE     a wrong field code in Exec                                         offset of its % in the
+ *                               65,536 bytes or not filled by its records                          0                  0
+ *     15  KVELDRIM_BAD_EXEC     Exec is badly written                                              offset in the      0
  *                                                                                                  unescaped value
- *     17  KVELDRIM_POSTFIXED    a plain key is to be removed whose postfixed keys remain           0
- *     18  KVELDRIM_INCOMPLETE   a key that is needed is missing                                    0
- *                               Type or a yes-or-no key has a value that it cannot have            line
+ *     16  KVELDRIM_BAD_CODE     a wrong field code in Exec                                         offset of its %    0
+ *                                                                                                  in the unescaped
+ *                                                                                                  value
+ *     17  KVELDRIM_POSTFIXED    a plain key is to be removed whose postfixed keys remain           0                  0
+ *     18  KVELDRIM_INCOMPLETE   a key that is needed is missing                                    0                  0
+ *                               Type or a yes-or-no key has a value that it cannot have            line               0
+ *
+ * The byte of a bad line is the first after which no ending could make the line good, or the line's length if the line is
+ * only unfinished: 1 for [], 3 for [a]x, 1 for an indented x, 4 for k[de.
  *
  * Where several apply: 14 for lengths; 1; the earliest line with 2 to 5 (2 first on that line); 3 for no header; 6; 14 for
  * the journal or the list; 7; 10; 12; 8; 6 for a set; 17; 9; 15 and 16 by lowest place; 18; 11; 13. An undo or a redo asks
@@ -100,12 +108,12 @@
  *  - A file that shrinks has zeros up to its old length. Bytes behind both lengths stay as they were.
  *
  *     static uint8_t file[KVELDRIM_FILE_BOUND], journal[KVELDRIM_JOURNAL_BOUND];
- *     uint64_t file_len = fread(file, 1, sizeof file, stdin), used = 0, standing = 0, place;
+ *     uint64_t file_len = fread(file, 1, sizeof file, stdin), used = 0, standing = 0, place, byte;
  *     uint32_t refused = kveldrim_set(file, sizeof file, &file_len, journal, sizeof journal, &used, &standing,
  *                                     (const uint8_t *) "Desktop Entry", 13, (const uint8_t *) "Name", 4,
- *                                     (const uint8_t *) "Read", 4, &place);
+ *                                     (const uint8_t *) "Read", 4, &place, &byte);
  *     if (refused == 0)
- *         refused = kveldrim_undo(file, sizeof file, &file_len, journal, sizeof journal, &used, &standing, &place);
+ *         refused = kveldrim_undo(file, sizeof file, &file_len, journal, sizeof journal, &used, &standing, &place, &byte);
  *
  * Forms
  *
@@ -122,6 +130,9 @@
 #ifdef __cplusplus
 extern "C" {
 #endif
+
+/* The number of this interface: raised whenever a signature changes. kveldrim_abi tells that of the library. */
+#define KVELDRIM_ABI 1
 
 /* The most bytes that a file may have. */
 #define KVELDRIM_FILE_BOUND 32768
@@ -157,13 +168,19 @@ extern "C" {
 #define KVELDRIM_INCOMPLETE 18
 
 /*
+ * Tells the number of the interface that the library was built for. A program that links the library apart from this
+ * header goes on only where it is KVELDRIM_ABI.
+ */
+uint32_t kveldrim_abi(void);
+
+/*
  * Asks whether a file is well formed.
  *
  *     file, file_len   the whole file
  *
  * Refusals: 1 to 6.
  */
-uint32_t kveldrim_check(const uint8_t *file, size_t file_len, uint64_t *place);
+uint32_t kveldrim_check(const uint8_t *file, size_t file_len, uint64_t *place, uint64_t *byte);
 
 /*
  * Asks whether a file is well formed and has what it needs in its group Desktop Entry: Type is Application, Link or
@@ -175,7 +192,7 @@ uint32_t kveldrim_check(const uint8_t *file, size_t file_len, uint64_t *place);
  *
  * Refusals: 1 to 6, 18.
  */
-uint32_t kveldrim_complete(const uint8_t *file, size_t file_len, uint64_t *place);
+uint32_t kveldrim_complete(const uint8_t *file, size_t file_len, uint64_t *place, uint64_t *byte);
 
 /*
  * Finds the raw value of a key. Its escapes are not read: kveldrim_read_text and kveldrim_read_list do that.
@@ -190,7 +207,7 @@ uint32_t kveldrim_complete(const uint8_t *file, size_t file_len, uint64_t *place
 uint32_t kveldrim_lookup(const uint8_t *file, size_t file_len,
                          const uint8_t *group, size_t group_len,
                          const uint8_t *key, size_t key_len,
-                         uint64_t *place, uint64_t *from, uint64_t *to);
+                         uint64_t *place, uint64_t *byte, uint64_t *from, uint64_t *to);
 
 /*
  * Finds the raw value that suits a locale best. The locale loses its .ENCODING; then the first that is there of
@@ -209,7 +226,7 @@ uint32_t kveldrim_choose(const uint8_t *file, size_t file_len,
                          const uint8_t *group, size_t group_len,
                          const uint8_t *key, size_t key_len,
                          const uint8_t *locale, size_t locale_len,
-                         uint64_t *place, uint64_t *from, uint64_t *to);
+                         uint64_t *place, uint64_t *byte, uint64_t *from, uint64_t *to);
 
 /*
  * Reads the escapes of a raw value: \s is a space, \n LF, \t tab, \r CR, \\ a backslash; other bytes stand for themselves.
@@ -269,7 +286,7 @@ uint32_t kveldrim_set(uint8_t *file, size_t file_room, uint64_t *file_len,
                       const uint8_t *group, size_t group_len,
                       const uint8_t *key, size_t key_len,
                       const uint8_t *text, size_t text_len,
-                      uint64_t *place);
+                      uint64_t *place, uint64_t *byte);
 
 /*
  * Removes a key with its line.
@@ -284,7 +301,7 @@ uint32_t kveldrim_remove(uint8_t *file, size_t file_room, uint64_t *file_len,
                          uint8_t *journal, size_t journal_room, uint64_t *used, uint64_t *standing,
                          const uint8_t *group, size_t group_len,
                          const uint8_t *key, size_t key_len,
-                         uint64_t *place);
+                         uint64_t *place, uint64_t *byte);
 
 /*
  * Takes back the latest edit that stands: the record that ends at *standing. Its new bytes become its old ones again.
@@ -296,7 +313,7 @@ uint32_t kveldrim_remove(uint8_t *file, size_t file_room, uint64_t *file_len,
  */
 uint32_t kveldrim_undo(uint8_t *file, size_t file_room, uint64_t *file_len,
                        uint8_t *journal, size_t journal_room, uint64_t *used, uint64_t *standing,
-                       uint64_t *place);
+                       uint64_t *place, uint64_t *byte);
 
 /*
  * Makes the next edit that waits once more: the record that starts at *standing. Its old bytes become its new ones again.
@@ -307,7 +324,7 @@ uint32_t kveldrim_undo(uint8_t *file, size_t file_room, uint64_t *file_len,
  */
 uint32_t kveldrim_redo(uint8_t *file, size_t file_room, uint64_t *file_len,
                        uint8_t *journal, size_t journal_room, uint64_t *used, uint64_t *standing,
-                       uint64_t *place);
+                       uint64_t *place, uint64_t *byte);
 
 /*
  * Expands Exec of the group Desktop Entry into the arguments of one run. Nothing is started. The first argument is the
@@ -340,7 +357,7 @@ uint32_t kveldrim_expand(const uint8_t *file, size_t file_len,
                          const uint8_t *list, size_t list_len,
                          uint64_t run,
                          uint8_t *out, size_t out_len,
-                         uint64_t *place, uint64_t *written);
+                         uint64_t *place, uint64_t *byte, uint64_t *written);
 
 #ifdef __cplusplus
 }

@@ -5,16 +5,16 @@ use mathlib.Core.List.{List}
 use Rattle.base.proofs.Tests.{no}
 use Rattle.fault.specs.declared.Fault.{Fault}
 use Rattle.fault.specs.declared.Fault.the-variants.{TooLong, BadLine, FirstGroup, RepeatedGroup, RepeatedKey, NoPlainKey, BadArgument, Missing, BadEscape, UnfitText, NoRoom, NothingLeft, JournalFull, Damaged, BadExec, BadCode, PostfixesRemain, Incomplete}
-use Rattle.fault.specs.Table.{numberOf, placeOf}
+use Rattle.fault.specs.Table.{numberOf, placeOf, byteOf}
 use Rattle.fault.specs.Answer.{Answer, given, refused}
 use Rattle.edit.specs.Calls.{State, content, atExit}
 use Rattle.edit.specs.Step as step
 use Rattle.edit.specs.Step.{Made, answered, Numbers}
 use Rattle.edit.specs.declared.Edited.{Edited}
 use Rattle.edit.specs.declared.Edited.the-variants as edited
-use Rattle.kveldrim.specs.Abi.{codeOf, placeIn}
+use Rattle.kveldrim.specs.Abi.{codeOf, placeIn, byteIn}
 use Rattle.demands.specs.Book.{Call}
-use Rattle.demands.specs.Demand3.{stateCall, Told, Refused, told, toldOver, leftBy, Demand3}
+use Rattle.demands.specs.Demand3.{stateCall, Told, toldOf, told, toldOver, leftBy, Demand3}
 use Rattle.demands.specs.Contracts.{Chain, no-call, one-call, Demand3Of, toldBy, after, ByContract, made, toldIn, ByExport, called, Demand3OfContracts, Demand3OfExports}
 use Rattle.demands.proofs.Agreement.{demand3}
 
@@ -75,7 +75,7 @@ demand3-of-contracts = demand3-of ByContract defined
 -- ---- the exported functions
 
 -- no refusal's number is 0
-refused-in : (f : Fault) → toldIn (numberOf f) (placeOf f) ≡ Refused (numberOf f) (placeOf f)
+refused-in : (f : Fault) → toldIn (numberOf f) (placeOf f) (byteOf f) ≡ toldOf f
 refused-in TooLong = refl
 refused-in (BadLine line byte) = refl
 refused-in (FirstGroup line) = refl
@@ -95,7 +95,7 @@ refused-in (BadCode at) = refl
 refused-in PostfixesRemain = refl
 refused-in (Incomplete line) = refl
 
-told-in : (a : Answer State) → toldIn (codeOf a) (placeIn a) ≡ told a
+told-in : (a : Answer State) → toldIn (codeOf a) (placeIn a) (byteIn a) ≡ told a
 told-in (given t) = refl
 told-in (refused f) = refused-in f
 
@@ -106,6 +106,6 @@ demand3-of-exports = demand3-of ByExport defined
     defined : (s : State) (c : Call) (x : Told) (t : State) → ByExport s c x t → Defined s c x t
     defined _ _ _ _ (called {s} {c} m) =
         record {
-          tells = rw (m .returned .code-is, m .returned .place-is) (told-in (stateCall s c));
+          tells = rw (m .returned .code-is, m .returned .place-is, m .returned .byte-is) (told-in (stateCall s c));
           leaves = λ i. record { file = m .file-is i; size = m .size-is i; journal = m .journal-is i; used = m .used-is i; standing = m .standing-is i };
         }

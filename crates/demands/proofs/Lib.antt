@@ -10,3 +10,4 @@ pub mod Frames
 pub mod Lengths
 pub mod CommandLaws
 pub mod TextLaws
+pub mod BadLines

@@ -5,7 +5,7 @@ use mathlib.Core.Path.{_≡_}
 use mathlib.Core.List.{List, [], _∷_}
 use Rattle.fault.specs.declared.Fault.{Fault}
 use Rattle.fault.specs.declared.Fault.the-variants.{NoRoom, NothingLeft, JournalFull}
-use Rattle.fault.specs.Table.{placeOf}
+use Rattle.fault.specs.Table.{placeOf, byteOf}
 use Rattle.fault.specs.Answer.{Answer, given, refused, _>>=_, need, then}
 use Rattle.splice.specs.Edit.{spliced}
 use Rattle.change.specs.Change.{Request, editOf}
@@ -73,6 +73,6 @@ bookCall b (Do q) = bookRequest b q
 bookCall b Undo = bookUndo b (b .standing)
 bookCall b Redo = bookRedo b (b .waiting)
 
--- a refusal has place 0
+-- a refusal has place 0 and byte 0
 unfoldable pub BookRefusesAtZero : Type 0
-BookRefusesAtZero = (b : Book) (c : Call) (f : Fault) → bookCall b c ≡ refused f → placeOf f ≡ 0
+BookRefusesAtZero = (b : Book) (c : Call) (f : Fault) → bookCall b c ≡ refused f → (placeOf f ≡ 0) × (byteOf f ≡ 0)

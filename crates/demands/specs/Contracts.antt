@@ -5,7 +5,6 @@ use Prim.Native.Nat.{ℕ, zero, suc}
 use mathlib.Core.Bool.{true}
 use mathlib.Core.List.{List, [], _∷_, _++_}
 use lib.ListN.{length}
-use Rattle.fault.specs.Table.{numberOf, placeOf}
 use Rattle.wellformed.specs.WellFormed.{wellFormed}
 use Rattle.edit.specs.Calls.{State}
 use Rattle.edit.specs.Step.{lent, Made}
@@ -13,7 +12,7 @@ use Rattle.edit.specs.declared.Edited.{Edited}
 use Rattle.edit.specs.declared.Edited.the-variants as edited
 use Rattle.kveldrim.specs.Abi.{Called}
 use Rattle.demands.specs.Book.{Call}
-use Rattle.demands.specs.Demand3.{stateCall, Told, Accepted, Refused, startState, startBook, AsInTheBook}
+use Rattle.demands.specs.Demand3.{stateCall, Told, Accepted, Refused, toldOf, startState, startBook, AsInTheBook}
 
 -- Calls in turn on the same buffers: what is lent at first, the calls, what each told, and what is lent at last. `step s c x t` says that the
 -- call c, lent s, told x and left t.
@@ -29,7 +28,7 @@ Demand3Of step = (start rest journal : List ℕ) (calls : List Call) (tolds : Li
 -- what an answer tells
 abbrev pub toldBy : Edited → Told
 toldBy (edited.Done size used standing) = Accepted
-toldBy (edited.Refused f) = Refused (numberOf f) (placeOf f)
+toldBy (edited.Refused f) = toldOf f
 
 -- what is lent to the next call: both buffers, and the answer's numbers, or the old ones where it was refused
 abbrev pub after : State → Edited → List ℕ → List ℕ → State
@@ -41,14 +40,14 @@ pub data ByContract : State → Call → Told → State → Type 0 where
   made : {s : State} {c : Call} {r : Edited} {file journal : List ℕ} → Made s (stateCall s c) r file journal → ByContract s c (toldBy r) (after s r file journal)
 
 -- what a C program is told: 0 is accepted
-abbrev pub toldIn : ℕ → ℕ → Told
-toldIn zero place = Accepted
-toldIn (suc code) place = Refused (suc code) place
+abbrev pub toldIn : ℕ → ℕ → ℕ → Told
+toldIn zero place byte = Accepted
+toldIn (suc code) place byte = Refused (suc code) place byte
 
 -- a call that returned this code and left these numbers and buffers, as the contracts of the exported functions promise
 pub data ByExport : State → Call → Told → State → Type 0 where
-  called : {s : State} {c : Call} {code place size used standing : ℕ} {file journal : List ℕ}
-      → Called s (stateCall s c) code place size used standing file journal → ByExport s c (toldIn code place) (lent file size journal used standing)
+  called : {s : State} {c : Call} {code place byte size used standing : ℕ} {file journal : List ℕ}
+      → Called s (stateCall s c) code place byte size used standing file journal → ByExport s c (toldIn code place byte) (lent file size journal used standing)
 
 -- demand 3 of calls of set, remove, undo and redo
 unfoldable pub Demand3OfContracts : Type 0

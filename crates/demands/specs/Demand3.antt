@@ -4,7 +4,8 @@ use Prim.Native.Nat.{ℕ}
 use mathlib.Core.Bool.{true}
 use mathlib.Core.List.{List, [], _∷_, _++_}
 use lib.ListN.{length}
-use Rattle.fault.specs.Table.{numberOf, placeOf}
+use Rattle.fault.specs.declared.Fault.{Fault}
+use Rattle.fault.specs.Table.{numberOf, placeOf, byteOf}
 use Rattle.fault.specs.Answer.{Answer, given, refused}
 use Rattle.wellformed.specs.WellFormed.{wellFormed}
 use Rattle.edit.specs.Calls.{State, content, request, undo, redo, atExit}
@@ -16,15 +17,19 @@ stateCall s (Do q) = request s q
 stateCall s Undo = undo s
 stateCall s Redo = redo s
 
--- what the caller is told: accepted, or a refusal's number and place
+-- what the caller is told: accepted, or a refusal's number, place and byte
 pub data Told : Type 0 where
   Accepted : Told
-  Refused : ℕ → ℕ → Told
+  Refused : ℕ → ℕ → ℕ → Told
+
+-- what a refusal tells
+abbrev pub toldOf : Fault → Told
+toldOf f = Refused (numberOf f) (placeOf f) (byteOf f)
 
 -- what an answer tells
 abbrev pub told : {A : Type 0} → Answer A → Told
 told (given a) = Accepted
-told (refused f) = Refused (numberOf f) (placeOf f)
+told (refused f) = toldOf f
 
 -- what is told over a list of calls, each on what the one before left
 unfoldable pub toldOver : {A : Type 0} → (A → Call → Answer A) → A → List Call → List Told

@@ -4,7 +4,7 @@ use mathlib.Core.Path.{_≡_}
 use mathlib.Core.List.{List, [], _∷_, _++_, map}
 use lib.ListN.{length, take, replicate}
 use Rattle.base.specs.Lists.{ascii}
-use Rattle.fault.specs.Table.{numberOf, placeOf}
+use Rattle.fault.specs.Table.{numberOf, placeOf, byteOf}
 use Rattle.fault.specs.Answer.{Answer, given, refused}
 use Rattle.text.specs.Escape.{readText, writeText}
 use Rattle.text.specs.Element.{readElements}
@@ -16,15 +16,15 @@ use Rattle.change.specs.Change.{Set}
 use Rattle.edit.specs.Calls.{request}
 use Rattle.demands.specs.Demand3.{startState}
 
--- what an example shows: some lists of bytes, or a refusal's number and place
+-- what an example shows: some lists of bytes, or a refusal's number, place and byte
 pub data Shown : Type 0 where
   Gives : List (List ℕ) → Shown
-  Refuses : ℕ → ℕ → Shown
+  Refuses : ℕ → ℕ → ℕ → Shown
 
 -- what an answer shows
 abbrev pub shown : {A : Type 0} → (A → List (List ℕ)) → Answer A → Shown
 shown f (given a) = Gives (f a)
-shown f (refused e) = Refuses (numberOf e) (placeOf e)
+shown f (refused e) = Refuses (numberOf e) (placeOf e) (byteOf e)
 
 -- a row of the table
 pub record Example : Type 0 where
@@ -84,7 +84,7 @@ recordOf size kind body = size ∷ 0 ∷ 0 ∷ 0 ∷ kind ∷ 0 ∷ body
 -- the table
 abbrev pub examples : List Example
 examples =
-    record { asked = checks []; expected = Refuses 3 0 }
+    record { asked = checks []; expected = Refuses 3 0 0 }
     ∷ record { asked = checks fileT; expected = Gives [] }
     ∷ record { asked = Gives ((length fileT ∷ []) ∷ []); expected = Gives ((71 ∷ []) ∷ []) }
     ∷ record { asked = nameIn (ascii "Name = X"); expected = Gives (ascii "X" ∷ []) }
@@ -97,7 +97,7 @@ examples =
       expected = Gives (ascii "a" ∷ []);
     }
     ∷ record { asked = writes (ascii " x"); expected = Gives (ascii "\\sx" ∷ []) }
-    ∷ record { asked = reads (ascii "a\\q"); expected = Refuses 9 1 }
+    ∷ record { asked = reads (ascii "a\\q"); expected = Refuses 9 1 0 }
     ∷ record {
       asked = setName (ascii "Les");
       expected = Gives (
@@ -106,8 +106,8 @@ examples =
           ∷ (0x1a ∷ 0 ∷ 0 ∷ 0 ∷ 1 ∷ 0 ∷ 0x26 ∷ 0 ∷ 0 ∷ 0 ∷ 5 ∷ 0 ∷ 0 ∷ 0 ∷ 3 ∷ 0 ∷ 0 ∷ 0 ∷ 0x4c ∷ 0x65 ∷ 0x73 ∷ 0x65 ∷ 0x6e ∷ 0x4c ∷ 0x65 ∷ 0x73 ∷ [])
           ∷ []);
     }
-    ∷ record { asked = expands (ascii "view \"%f\""); expected = Refuses 16 6 }
-    ∷ record { asked = expands (ascii "view %f %u"); expected = Refuses 16 8 }
+    ∷ record { asked = expands (ascii "view \"%f\""); expected = Refuses 16 6 0 }
+    ∷ record { asked = expands (ascii "view %f %u"); expected = Refuses 16 8 0 }
     ∷ record { asked = expands (ascii "view \"a\\\\$b\""); expected = Gives ((recordOf 10 3 (ascii "view") ++ recordOf 9 3 (ascii "a$b")) ∷ []) }
     ∷ record { asked = expands (ascii "view --x=%f"); expected = Gives ((recordOf 10 3 (ascii "view") ++ recordOf 10 3 (ascii "--x=")) ∷ []) }
     ∷ record { asked = expands (ascii "view %f"); expected = Gives (recordOf 10 3 (ascii "view") ∷ []) }

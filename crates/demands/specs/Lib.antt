@@ -7,3 +7,4 @@ pub mod Contracts
 pub mod Examples
 pub mod Commands
 pub mod Texts
+pub mod BadLine

@@ -88,7 +88,7 @@ fn runs_of_all_files() {
     expand_german(b"[Desktop Entry]\nExec=view %F\n", two, 1, 40);
 }
 
-// An empty file name, and no Exec.
+// An empty file name, no Exec, and a bad line.
 fn nothing_to_expand() {
     expand_german(
         b"[Desktop Entry]\nExec=view %F\n",
@@ -97,6 +97,7 @@ fn nothing_to_expand() {
         10,
     );
     expand_german(b"[Desktop Entry]\nName=X\n", b"", 0, 10);
+    expand_german(b"[Desktop Entry]\nExec\n", b"", 0, 10);
 }
 
 // Name, Icon and the location.

@@ -51,6 +51,18 @@ pub fn refused_checks() {
     check(b"[Desktop Entry]\nName[fr]=a\n!\n");
 }
 
+// Where in its line a bad line goes wrong.
+pub fn bad_lines() {
+    check(b"[]\n");
+    check(b"[Desktop Entry]x\n");
+    check(b"[Desktop Entry]\n x\n");
+    check(b"[Desktop Entry]\nName\t=x\n");
+    check(b"[Desktop Entry]\nName[]=x\n");
+    check(b"[Desktop Entry]\nName[de");
+    check(b"[Desktop Entry]\nName=\xe0\x80\n");
+    check(b"[Desktop Entry]\nName=\xe0");
+}
+
 pub fn completeness(t: &[u8; 71]) {
     complete(t);
     complete(b"[Desktop Entry]\nType=Application\nName=N\nDBusActivatable=true\n");
@@ -58,6 +70,7 @@ pub fn completeness(t: &[u8; 71]) {
 
 pub fn refused_completeness() {
     complete(b"");
+    complete(b"[Desktop Entry]\nType\n");
     complete(b"[Desktop Entry]\nName=N\n");
     complete(b"[Desktop Entry]\nName=N\nType=Tool\n");
     complete(b"[Desktop Entry]\nType=Directory\n");

@@ -11,6 +11,7 @@ fn main() {
     let t = b"[Desktop Entry]\nType=Application\nName=Lesen\nName[fr]=Lire\nExec=view %F\n";
     files::checks(t);
     files::refused_checks();
+    files::bad_lines();
     files::completeness(t);
     files::refused_completeness();
     values::lookups(t);

@@ -68,6 +68,8 @@ fn say_refused(f: Fault) {
     say_number(t.number as usize);
     say(b" at ");
     say_number(t.place);
+    say(b" byte ");
+    say_number(t.byte);
 }
 
 // The answer of the check or of completeness.

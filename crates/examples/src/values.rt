@@ -41,6 +41,7 @@ pub fn lookups(t: &[u8; 71]) {
 
 pub fn refused_lookups(t: &[u8; 71]) {
     lookup(b"", b"[", b"Name");
+    lookup(b"[Desktop Entry]\nName\n", b"[", b"Name");
     lookup(t, b"[", b"Name");
     lookup(t, b"Desktop Entry", b"Name[");
     lookup(t, b"Other", b"Name");
@@ -65,6 +66,7 @@ pub fn choices(t: &[u8; 71]) {
 
 pub fn refused_choices(t: &[u8; 71]) {
     choose(b"", b"Desktop Entry", b"Name", b"_");
+    choose_name(b"[Desktop Entry]\nName[\n", b"_");
     choose(t, b"Desktop Entry", b"Name[fr]", b"fr");
     choose_name(t, b"_");
     choose(t, b"Desktop Entry", b"Icon", b"fr");

@@ -1,4 +1,4 @@
--- The number and the place of each refusal (01, "What the caller is told"). Assumes nothing.
+-- The number and the place of each refusal (01, "What the caller is told"), and the byte of a bad line (02, A6). Assumes nothing.
 use Prim.Native.Nat.{ℕ}
 use Rattle.fault.specs.declared.Fault.{Fault}
 use Rattle.fault.specs.declared.Fault.the-variants.{TooLong, BadLine, FirstGroup, RepeatedGroup, RepeatedKey, NoPlainKey, BadArgument, Missing, BadEscape, UnfitText, NoRoom, NothingLeft, JournalFull, Damaged, BadExec, BadCode, PostfixesRemain, Incomplete}
@@ -44,3 +44,24 @@ placeOf (BadExec at) = at
 placeOf (BadCode at) = at
 placeOf PostfixesRemain = 0
 placeOf (Incomplete line) = line
+
+-- the byte in a bad line, from 0; 0 for every other refusal
+abbrev pub byteOf : Fault → ℕ
+byteOf TooLong = 0
+byteOf (BadLine line byte) = byte
+byteOf (FirstGroup line) = 0
+byteOf (RepeatedGroup line) = 0
+byteOf (RepeatedKey line) = 0
+byteOf (NoPlainKey line) = 0
+byteOf BadArgument = 0
+byteOf Missing = 0
+byteOf (BadEscape at) = 0
+byteOf UnfitText = 0
+byteOf NoRoom = 0
+byteOf NothingLeft = 0
+byteOf JournalFull = 0
+byteOf Damaged = 0
+byteOf (BadExec at) = 0
+byteOf (BadCode at) = 0
+byteOf PostfixesRemain = 0
+byteOf (Incomplete line) = 0

@@ -1,6 +1,6 @@
 // The refusals of 01's table, each with its place. The variants stand in the order of their numbers.
 ghost use mathlib.Core.Path.{_≡_};
-ghost use Rattle.fault.specs.Table.{numberOf, placeOf};
+ghost use Rattle.fault.specs.Table.{numberOf, placeOf, byteOf};
 
 pub enum Fault {
     // A file over 32,768 bytes.
@@ -41,104 +41,107 @@ pub enum Fault {
     Incomplete { line: usize },
 }
 
-// A refusal as 01's table tells it.
+// A refusal as the caller is told of it: its number and place in 01's table, and the byte in a bad line.
 pub struct Told {
     pub number: u32,
     pub place: usize,
+    pub byte: usize,
 }
 
-// The refusal's line of the table.
+// What the caller is told of a refusal.
 pub fn tell(f: Fault) -> Told
-    ensures { λ r. ⌜ (r .number ≡ numberOf f) × (r .place ≡ placeOf f) ⌝ }
+    ensures { λ r. ⌜ (r .number ≡ numberOf f) × (r .place ≡ placeOf f) × (r .byte ≡ byteOf f) ⌝ }
 {
     match f {
         Fault::TooLong => Told {
             number: 1,
             place: 0,
+            byte: 0,
         },
-        Fault::BadLine { line, byte: _ } => Told {
+        Fault::BadLine { line, byte } => Told {
             number: 2,
             place: line,
+            byte: byte,
         },
         Fault::FirstGroup { line } => Told {
             number: 3,
             place: line,
+            byte: 0,
         },
         Fault::RepeatedGroup { line } => Told {
             number: 4,
             place: line,
+            byte: 0,
         },
         Fault::RepeatedKey { line } => Told {
             number: 5,
             place: line,
+            byte: 0,
         },
         Fault::NoPlainKey { line } => Told {
             number: 6,
             place: line,
+            byte: 0,
         },
         Fault::BadArgument => Told {
             number: 7,
             place: 0,
+            byte: 0,
         },
         Fault::Missing => Told {
             number: 8,
             place: 0,
+            byte: 0,
         },
         Fault::BadEscape { at } => Told {
             number: 9,
             place: at,
+            byte: 0,
         },
         Fault::UnfitText => Told {
             number: 10,
             place: 0,
+            byte: 0,
         },
         Fault::NoRoom => Told {
             number: 11,
             place: 0,
+            byte: 0,
         },
         Fault::NothingLeft => Told {
             number: 12,
             place: 0,
+            byte: 0,
         },
         Fault::JournalFull => Told {
             number: 13,
             place: 0,
+            byte: 0,
         },
         Fault::Damaged => Told {
             number: 14,
             place: 0,
+            byte: 0,
         },
         Fault::BadExec { at } => Told {
             number: 15,
             place: at,
+            byte: 0,
         },
         Fault::BadCode { at } => Told {
             number: 16,
             place: at,
+            byte: 0,
         },
         Fault::PostfixesRemain => Told {
             number: 17,
             place: 0,
+            byte: 0,
         },
         Fault::Incomplete { line } => Told {
             number: 18,
             place: line,
+            byte: 0,
         },
     }
-}
-
-// The refusal's number in 01's table.
-pub fn number(f: Fault) -> u32
-    ensures { λ r. ⌜ r ≡ numberOf f ⌝ }
-{
-    let t = tell(f);
-    t.number
-}
-
-// The refusal's place in 01's table.
-pub fn place(f: Fault) -> usize
-    ensures { λ r. ⌜ r ≡ placeOf f ⌝ }
-{
-    let t = tell(f);
-    t.place
 }

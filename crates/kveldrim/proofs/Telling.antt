@@ -1,5 +1,5 @@
 -- What a C program sees of a call, from what the call answers and leaves. Assumes nothing.
-use mathlib.Core.Path.{_≡_, refl, _∙_}
+use mathlib.Core.Path.{_≡_, refl, sym, _∙_}
 use Prim.Native.Nat.{ℕ}
 use mathlib.Core.List.{List}
 use Rattle.fault.specs.Answer.{Answer, given, refused}
@@ -7,17 +7,24 @@ use Rattle.entry.specs.Lookup.{Extent}
 use Rattle.edit.specs.Calls.{State, atExit}
 use Rattle.edit.specs.Step.{answered, told, Made}
 use Rattle.edit.specs.declared.Edited.{Edited}
-use Rattle.kveldrim.specs.Abi.{codeOf, placeIn, writtenIn, Returned, ReturnedLength, ReturnedEnds, ReturnedNumbers, Called}
+use Rattle.kveldrim.specs.Abi.{codeOf, placeIn, byteIn, writtenIn, Returned, ReturnedLength, ReturnedEnds, ReturnedNumbers, Called}
 
 -- ---- the same is seen of equal answers
 
-pub same-returned : {A : Type 0} {a b : Answer A} {code place : ℕ} → a ≡ b → Returned a code place → Returned b code place
+pub same-returned : {A : Type 0} {a b : Answer A} {code place byte : ℕ} → a ≡ b → Returned a code place byte → Returned b code place byte
 same-returned e t = rw e at t
 
-pub same-length : {a b : Answer ℕ} {code place written₀ written : ℕ} → a ≡ b → ReturnedLength a code place written₀ written → ReturnedLength b code place written₀ written
+pub same-length : {a b : Answer ℕ} {code place byte written₀ written : ℕ} → a ≡ b → ReturnedLength a code place byte written₀ written → ReturnedLength b code place byte written₀ written
 same-length e t = rw e at t
 
-pub same-ends : {a b : Answer Extent} {code place from₀ from to₀ to : ℕ} → a ≡ b → ReturnedEnds a code place from₀ from to₀ to → ReturnedEnds b code place from₀ from to₀ to
+-- a call that tells no byte is one whose byte is 0
+pub same-text : {a b : Answer ℕ} {code place byte written₀ written : ℕ} → a ≡ b → byteIn b ≡ 0 → ReturnedLength a code place byte written₀ written → ReturnedLength b code place 0 written₀ written
+same-text e z t =
+    let r = same-length e t in
+    let q = r .returned in
+    record { returned = record { code-is = q .code-is; place-is = q .place-is; byte-is = sym z }; written-is = r .written-is }
+
+pub same-ends : {a b : Answer Extent} {code place byte from₀ from to₀ to : ℕ} → a ≡ b → ReturnedEnds a code place byte from₀ from to₀ to → ReturnedEnds b code place byte from₀ from to₀ to
 same-ends e t = rw e at t
 
 -- ---- a call that edits
@@ -31,6 +38,10 @@ place-told : (a : Answer State) → placeIn (told a) ≡ placeIn a
 place-told (given s) = refl
 place-told (refused f) = refl
 
+byte-told : (a : Answer State) → byteIn (told a) ≡ byteIn a
+byte-told (given s) = refl
+byte-told (refused f) = refl
+
 size-told : (s : State) (a : Answer State) → writtenIn (λ n. n .size) (told a) (s .size) ≡ atExit s a .size
 size-told s (given t) = refl
 size-told s (refused f) = refl
@@ -43,12 +54,12 @@ standing-told : (s : State) (a : Answer State) → writtenIn (λ n. n .standing)
 standing-told s (given t) = refl
 standing-told s (refused f) = refl
 
-pub called : {s : State} {a : Answer State} {e : Edited} {code place size used standing : ℕ} {file journal : List ℕ} → Made s a e file journal
-    → ReturnedNumbers (answered e) code place (s .size) size (s .used) used (s .standing) standing → Called s a code place size used standing file journal
-called {s} {a} {e} {code} {place} {size} {used} {standing} m t =
-    let n : ReturnedNumbers (told a) code place (s .size) size (s .used) used (s .standing) standing = rw (m .answer) at t in
+pub called : {s : State} {a : Answer State} {e : Edited} {code place byte size used standing : ℕ} {file journal : List ℕ} → Made s a e file journal
+    → ReturnedNumbers (answered e) code place byte (s .size) size (s .used) used (s .standing) standing → Called s a code place byte size used standing file journal
+called {s} {a} {e} {code} {place} {byte} {size} {used} {standing} m t =
+    let n : ReturnedNumbers (told a) code place byte (s .size) size (s .used) used (s .standing) standing = rw (m .answer) at t in
     record {
-      returned = record { code-is = n .returned .code-is ∙ code-told a; place-is = n .returned .place-is ∙ place-told a };
+      returned = record { code-is = n .returned .code-is ∙ code-told a; place-is = n .returned .place-is ∙ place-told a; byte-is = n .returned .byte-is ∙ byte-told a };
       size-is = n .size-is ∙ size-told s a;
       used-is = n .used-is ∙ used-told s a;
       standing-is = n .standing-is ∙ standing-told s a;

@@ -1,12 +1,17 @@
--- How an answer is told to a C program: a refusal's number, or 0; its place; and a number that is written only where it is given. Assumes nothing.
+-- How an answer is told to a C program: a refusal's number, or 0; its place; its byte; and a number that is written only where it is given.
+-- Assumes nothing.
 use mathlib.Core.Path.{_≡_}
 use Prim.Native.Nat.{ℕ}
 use mathlib.Core.List.{List}
-use Rattle.fault.specs.Table.{numberOf, placeOf}
+use Rattle.fault.specs.Table.{numberOf, placeOf, byteOf}
 use Rattle.fault.specs.Answer.{Answer, given, refused}
 use Rattle.entry.specs.Lookup.{Extent}
 use Rattle.edit.specs.Calls.{State, atExit}
 use Rattle.edit.specs.Step.{Numbers}
+
+-- the number of the C interface, raised whenever a signature changes
+abbrev pub abi : ℕ
+abi = 1
 
 -- the refusal's number, 0 if accepted
 abbrev pub codeOf : {A : Type 0} → Answer A → ℕ
@@ -18,30 +23,36 @@ abbrev pub placeIn : {A : Type 0} → Answer A → ℕ
 placeIn (given a) = 0
 placeIn (refused f) = placeOf f
 
+-- the refusal's byte, 0 if accepted
+abbrev pub byteIn : {A : Type 0} → Answer A → ℕ
+byteIn (given a) = 0
+byteIn (refused f) = byteOf f
+
 -- a number of the answer; as it was where refused
 abbrev pub writtenIn : {A : Type 0} → (A → ℕ) → Answer A → ℕ → ℕ
 writtenIn h (given a) old = h a
 writtenIn h (refused f) old = old
 
--- what a C program sees of a call: the code that it returned, and the place
-pub record Returned {A : Type 0} (a : Answer A) (code place : ℕ) : Type 0 where
+-- what a C program sees of a call: the code that it returned, the place and the byte
+pub record Returned {A : Type 0} (a : Answer A) (code place byte : ℕ) : Type 0 where
   pub code-is : code ≡ codeOf a
   pub place-is : place ≡ placeIn a
+  pub byte-is : byte ≡ byteIn a
 
 -- and of a call with an output: how many bytes were written
-pub record ReturnedLength (a : Answer ℕ) (code place written₀ written : ℕ) : Type 0 where
-  pub returned : Returned a code place
+pub record ReturnedLength (a : Answer ℕ) (code place byte written₀ written : ℕ) : Type 0 where
+  pub returned : Returned a code place byte
   pub written-is : written ≡ writtenIn (λ n. n) a written₀
 
 -- of a call that finds a value: its two ends
-pub record ReturnedEnds (a : Answer Extent) (code place from₀ from to₀ to : ℕ) : Type 0 where
-  pub returned : Returned a code place
+pub record ReturnedEnds (a : Answer Extent) (code place byte from₀ from to₀ to : ℕ) : Type 0 where
+  pub returned : Returned a code place byte
   pub from-is : from ≡ writtenIn (λ e. e .from) a from₀
   pub to-is : to ≡ writtenIn (λ e. e .to) a to₀
 
 -- of a call that edits: the three numbers and both buffers, as it returns
-pub record Called (s : State) (a : Answer State) (code place size used standing : ℕ) (file journal : List ℕ) : Type 0 where
-  pub returned : Returned a code place
+pub record Called (s : State) (a : Answer State) (code place byte size used standing : ℕ) (file journal : List ℕ) : Type 0 where
+  pub returned : Returned a code place byte
   pub size-is : size ≡ atExit s a .size
   pub used-is : used ≡ atExit s a .used
   pub standing-is : standing ≡ atExit s a .standing
@@ -49,8 +60,8 @@ pub record Called (s : State) (a : Answer State) (code place size used standing 
   pub journal-is : journal ≡ atExit s a .journal
 
 -- the three numbers by what the call answered
-pub record ReturnedNumbers (a : Answer Numbers) (code place size₀ size used₀ used standing₀ standing : ℕ) : Type 0 where
-  pub returned : Returned a code place
+pub record ReturnedNumbers (a : Answer Numbers) (code place byte size₀ size used₀ used standing₀ standing : ℕ) : Type 0 where
+  pub returned : Returned a code place byte
   pub size-is : size ≡ writtenIn (λ n. n .size) a size₀
   pub used-is : used ≡ writtenIn (λ n. n .used) a used₀
   pub standing-is : standing ≡ writtenIn (λ n. n .standing) a standing₀

@@ -12,8 +12,9 @@ fn tell_edited(
     used: &mut u64,
     standing: &mut u64,
     place: &mut u64,
+    byte: &mut u64,
 ) -> u32
-    ensures { λ r. ⌜ ReturnedNumbers (answered e) r (now (place .exit)) (now (size .entry)) (now (size .exit)) (now (used .entry)) (now (used .exit))
+    ensures { λ r. ⌜ ReturnedNumbers (answered e) r (now (place .exit)) (now (byte .exit)) (now (size .entry)) (now (size .exit)) (now (used .entry)) (now (used .exit))
         (now (standing .entry)) (now (standing .exit)) ⌝ }
 {
     match e {
@@ -23,12 +24,13 @@ fn tell_edited(
             standing: n,
         } => {
             *place = 0;
+            *byte = 0;
             *size = length as u64;
             *used = u as u64;
             *standing = n as u64;
             0
         }
-        Edited::Refused(f) => crate::refuse(f, place),
+        Edited::Refused(f) => crate::refuse(f, place, byte),
     }
 }
 
@@ -43,16 +45,17 @@ pub extern "C" fn kveldrim_set(
     key: &[u8],
     text: &[u8],
     place: &mut u64,
+    byte: &mut u64,
 ) -> u32
     ensures { λ r. ⌜ Called (lent (now (file .entry)) (now (size .entry)) (now (journal .entry)) (now (used .entry)) (now (standing .entry)))
         (request (lent (now (file .entry)) (now (size .entry)) (now (journal .entry)) (now (used .entry)) (now (standing .entry))) (Set (now (group .entry)) (now (key .entry)) (now (text .entry))))
-        r (now (place .exit)) (now (size .exit)) (now (used .exit)) (now (standing .exit)) (now (file .exit)) (now (journal .exit)) ⌝ }
+        r (now (place .exit)) (now (byte .exit)) (now (size .exit)) (now (used .exit)) (now (standing .exit)) (now (file .exit)) (now (journal .exit)) ⌝ }
 {
     let length = *size as usize;
     let u = *used as usize;
     let n = *standing as usize;
     let e = edit::set(file, length, journal, u, n, group, key, text);
-    tell_edited(e, size, used, standing, place)
+    tell_edited(e, size, used, standing, place, byte)
 }
 
 #[no_mangle]
@@ -65,16 +68,17 @@ pub extern "C" fn kveldrim_remove(
     group: &[u8],
     key: &[u8],
     place: &mut u64,
+    byte: &mut u64,
 ) -> u32
     ensures { λ r. ⌜ Called (lent (now (file .entry)) (now (size .entry)) (now (journal .entry)) (now (used .entry)) (now (standing .entry)))
         (request (lent (now (file .entry)) (now (size .entry)) (now (journal .entry)) (now (used .entry)) (now (standing .entry))) (Remove (now (group .entry)) (now (key .entry))))
-        r (now (place .exit)) (now (size .exit)) (now (used .exit)) (now (standing .exit)) (now (file .exit)) (now (journal .exit)) ⌝ }
+        r (now (place .exit)) (now (byte .exit)) (now (size .exit)) (now (used .exit)) (now (standing .exit)) (now (file .exit)) (now (journal .exit)) ⌝ }
 {
     let length = *size as usize;
     let u = *used as usize;
     let n = *standing as usize;
     let e = edit::remove(file, length, journal, u, n, group, key);
-    tell_edited(e, size, used, standing, place)
+    tell_edited(e, size, used, standing, place, byte)
 }
 
 #[no_mangle]
@@ -85,16 +89,17 @@ pub extern "C" fn kveldrim_undo(
     used: &mut u64,
     standing: &mut u64,
     place: &mut u64,
+    byte: &mut u64,
 ) -> u32
     ensures { λ r. ⌜ Called (lent (now (file .entry)) (now (size .entry)) (now (journal .entry)) (now (used .entry)) (now (standing .entry)))
         (undo (lent (now (file .entry)) (now (size .entry)) (now (journal .entry)) (now (used .entry)) (now (standing .entry))))
-        r (now (place .exit)) (now (size .exit)) (now (used .exit)) (now (standing .exit)) (now (file .exit)) (now (journal .exit)) ⌝ }
+        r (now (place .exit)) (now (byte .exit)) (now (size .exit)) (now (used .exit)) (now (standing .exit)) (now (file .exit)) (now (journal .exit)) ⌝ }
 {
     let length = *size as usize;
     let u = *used as usize;
     let n = *standing as usize;
     let e = edit::undo(file, length, journal, u, n);
-    tell_edited(e, size, used, standing, place)
+    tell_edited(e, size, used, standing, place, byte)
 }
 
 #[no_mangle]
@@ -105,14 +110,15 @@ pub extern "C" fn kveldrim_redo(
     used: &mut u64,
     standing: &mut u64,
     place: &mut u64,
+    byte: &mut u64,
 ) -> u32
     ensures { λ r. ⌜ Called (lent (now (file .entry)) (now (size .entry)) (now (journal .entry)) (now (used .entry)) (now (standing .entry)))
         (redo (lent (now (file .entry)) (now (size .entry)) (now (journal .entry)) (now (used .entry)) (now (standing .entry))))
-        r (now (place .exit)) (now (size .exit)) (now (used .exit)) (now (standing .exit)) (now (file .exit)) (now (journal .exit)) ⌝ }
+        r (now (place .exit)) (now (byte .exit)) (now (size .exit)) (now (used .exit)) (now (standing .exit)) (now (file .exit)) (now (journal .exit)) ⌝ }
 {
     let length = *size as usize;
     let u = *used as usize;
     let n = *standing as usize;
     let e = edit::redo(file, length, journal, u, n);
-    tell_edited(e, size, used, standing, place)
+    tell_edited(e, size, used, standing, place, byte)
 }

@@ -15,70 +15,84 @@ ghost use Rattle.entry.specs.Choose.{choose};
 ghost use Rattle.entry.specs.Complete.{complete};
 ghost use Rattle.wellformed.specs.Check as check;
 ghost use Rattle.wellformed.specs.Pass as pass;
-ghost use Rattle.kveldrim.specs.Abi.{Returned, ReturnedLength, ReturnedEnds};
-ghost use Rattle.fault.specs.Table.{numberOf, placeOf};
+ghost use Rattle.kveldrim.specs.Abi.{abi, Returned, ReturnedLength, ReturnedEnds};
+ghost use Rattle.fault.specs.Table.{numberOf, placeOf, byteOf};
 
 // A refusal, as it is told.
-fn refuse(f: Fault, place: &mut u64) -> u32
-    ensures { λ r. ⌜ (r ≡ numberOf f) × (now (place .exit) ≡ placeOf f) ⌝ }
+fn refuse(f: Fault, place: &mut u64, byte: &mut u64) -> u32
+    ensures { λ r. ⌜ (r ≡ numberOf f) × (now (place .exit) ≡ placeOf f) × (now (byte .exit) ≡ byteOf f) ⌝ }
 {
-    *place = fault::place(f) as u64;
-    fault::number(f)
+    let t = fault::tell(f);
+    *place = t.place as u64;
+    *byte = t.byte as u64;
+    t.number
 }
 
 // The answer of a call with an output.
-fn tell_written(w: Written, place: &mut u64, written: &mut u64) -> u32
-    ensures { λ r. ⌜ ReturnedLength (answered w) r (now (place .exit)) (now (written .entry)) (now (written .exit)) ⌝ }
+fn tell_written(w: Written, place: &mut u64, byte: &mut u64, written: &mut u64) -> u32
+    ensures { λ r. ⌜ ReturnedLength (answered w) r (now (place .exit)) (now (byte .exit)) (now (written .entry)) (now (written .exit)) ⌝ }
 {
     match w {
         Written::Bytes(n) => {
             *place = 0;
+            *byte = 0;
             *written = n as u64;
             0
         }
-        Written::Refused(f) => refuse(f, place),
+        Written::Refused(f) => refuse(f, place, byte),
     }
 }
 
 // The answer of the check.
-fn tell_checked(c: Checked, place: &mut u64) -> u32
-    ensures { λ r. ⌜ Returned (pass.answered c) r (now (place .exit)) ⌝ }
+fn tell_checked(c: Checked, place: &mut u64, byte: &mut u64) -> u32
+    ensures { λ r. ⌜ Returned (pass.answered c) r (now (place .exit)) (now (byte .exit)) ⌝ }
 {
     match c {
         Checked::Sound => {
             *place = 0;
+            *byte = 0;
             0
         }
-        Checked::Refused(f) => refuse(f, place),
+        Checked::Refused(f) => refuse(f, place, byte),
     }
 }
 
+const ABI: u32 = 1;
+
 #[no_mangle]
-pub extern "C" fn kveldrim_check(file: &[u8], place: &mut u64) -> u32
-    ensures { λ r. ⌜ Returned (check.check (now (file .entry))) r (now (place .exit)) ⌝ }
+pub extern "C" fn kveldrim_abi() -> u32
+    ensures { λ r. ⌜ r ≡ abi ⌝ }
 {
-    tell_checked(wellformed::check(file), place)
+    ABI
 }
 
 #[no_mangle]
-pub extern "C" fn kveldrim_complete(file: &[u8], place: &mut u64) -> u32
-    ensures { λ r. ⌜ Returned (complete (now (file .entry))) r (now (place .exit)) ⌝ }
+pub extern "C" fn kveldrim_check(file: &[u8], place: &mut u64, byte: &mut u64) -> u32
+    ensures { λ r. ⌜ Returned (check.check (now (file .entry))) r (now (place .exit)) (now (byte .exit)) ⌝ }
 {
-    tell_checked(entry::is_complete(file), place)
+    tell_checked(wellformed::check(file), place, byte)
+}
+
+#[no_mangle]
+pub extern "C" fn kveldrim_complete(file: &[u8], place: &mut u64, byte: &mut u64) -> u32
+    ensures { λ r. ⌜ Returned (complete (now (file .entry))) r (now (place .exit)) (now (byte .exit)) ⌝ }
+{
+    tell_checked(entry::is_complete(file), place, byte)
 }
 
 // The answer of a call that finds a value.
-fn tell_ends(e: Ends, place: &mut u64, from: &mut u64, to: &mut u64) -> u32
-    ensures { λ r. ⌜ ReturnedEnds (lookup.answered e) r (now (place .exit)) (now (from .entry)) (now (from .exit)) (now (to .entry)) (now (to .exit)) ⌝ }
+fn tell_ends(e: Ends, place: &mut u64, byte: &mut u64, from: &mut u64, to: &mut u64) -> u32
+    ensures { λ r. ⌜ ReturnedEnds (lookup.answered e) r (now (place .exit)) (now (byte .exit)) (now (from .entry)) (now (from .exit)) (now (to .entry)) (now (to .exit)) ⌝ }
 {
     match e {
         Ends::At { from: a, to: b } => {
             *place = 0;
+            *byte = 0;
             *from = a as u64;
             *to = b as u64;
             0
         }
-        Ends::Refused(f) => refuse(f, place),
+        Ends::Refused(f) => refuse(f, place, byte),
     }
 }
 
@@ -88,13 +102,14 @@ pub extern "C" fn kveldrim_lookup(
     group: &[u8],
     key: &[u8],
     place: &mut u64,
+    byte: &mut u64,
     from: &mut u64,
     to: &mut u64,
 ) -> u32
     ensures { λ r. ⌜ ReturnedEnds (lookup.lookup (now (file .entry)) (now (group .entry)) (now (key .entry)))
-        r (now (place .exit)) (now (from .entry)) (now (from .exit)) (now (to .entry)) (now (to .exit)) ⌝ }
+        r (now (place .exit)) (now (byte .exit)) (now (from .entry)) (now (from .exit)) (now (to .entry)) (now (to .exit)) ⌝ }
 {
-    tell_ends(entry::lookup_ends(file, group, key), place, from, to)
+    tell_ends(entry::lookup_ends(file, group, key), place, byte, from, to)
 }
 
 #[no_mangle]
@@ -104,15 +119,17 @@ pub extern "C" fn kveldrim_choose(
     key: &[u8],
     locale: &[u8],
     place: &mut u64,
+    byte: &mut u64,
     from: &mut u64,
     to: &mut u64,
 ) -> u32
     ensures { λ r. ⌜ ReturnedEnds (choose (now (file .entry)) (now (group .entry)) (now (key .entry)) (now (locale .entry)))
-        r (now (place .exit)) (now (from .entry)) (now (from .exit)) (now (to .entry)) (now (to .exit)) ⌝ }
+        r (now (place .exit)) (now (byte .exit)) (now (from .entry)) (now (from .exit)) (now (to .entry)) (now (to .exit)) ⌝ }
 {
     tell_ends(
         entry::choose_ends(file, group, key, locale),
         place,
+        byte,
         from,
         to,
     )
@@ -126,10 +143,11 @@ pub extern "C" fn kveldrim_read_text(
     written: &mut u64,
 ) -> u32
     ensures told { λ r. ⌜ ReturnedLength (told (readText (now (raw .entry))) (now (out .entry)))
-        r (now (place .exit)) (now (written .entry)) (now (written .exit)) ⌝ }
+        r (now (place .exit)) 0 (now (written .entry)) (now (written .exit)) ⌝ }
     ensures output { λ _. ⌜ now (out .exit) ≡ held (readText (now (raw .entry))) (now (out .entry)) ⌝ }
 {
-    tell_written(text::read_text(raw, out), place, written)
+    let mut byte = 0;
+    tell_written(text::read_text(raw, out), place, &mut byte, written)
 }
 
 #[no_mangle]
@@ -140,10 +158,11 @@ pub extern "C" fn kveldrim_write_text(
     written: &mut u64,
 ) -> u32
     ensures told { λ r. ⌜ ReturnedLength (told (writeText (now (text .entry))) (now (out .entry)))
-        r (now (place .exit)) (now (written .entry)) (now (written .exit)) ⌝ }
+        r (now (place .exit)) 0 (now (written .entry)) (now (written .exit)) ⌝ }
     ensures output { λ _. ⌜ now (out .exit) ≡ held (writeText (now (text .entry))) (now (out .entry)) ⌝ }
 {
-    tell_written(text::write_text(text, out), place, written)
+    let mut byte = 0;
+    tell_written(text::write_text(text, out), place, &mut byte, written)
 }
 
 #[no_mangle]
@@ -154,10 +173,11 @@ pub extern "C" fn kveldrim_read_list(
     written: &mut u64,
 ) -> u32
     ensures told { λ r. ⌜ ReturnedLength (told (readElements (now (raw .entry))) (now (out .entry)))
-        r (now (place .exit)) (now (written .entry)) (now (written .exit)) ⌝ }
+        r (now (place .exit)) 0 (now (written .entry)) (now (written .exit)) ⌝ }
     ensures output { λ _. ⌜ now (out .exit) ≡ held (readElements (now (raw .entry))) (now (out .entry)) ⌝ }
 {
-    tell_written(text::read_list(raw, out), place, written)
+    let mut byte = 0;
+    tell_written(text::read_list(raw, out), place, &mut byte, written)
 }
 
 #[no_mangle]
@@ -169,16 +189,18 @@ pub extern "C" fn kveldrim_expand(
     run: u64,
     out: &mut [u8],
     place: &mut u64,
+    byte: &mut u64,
     written: &mut u64,
 ) -> u32
     ensures told { λ r. ⌜ ReturnedLength (told (expand (now (file .entry)) (now (locale .entry)) (now (location .entry)) (now (list .entry)) run) (now (out .entry)))
-        r (now (place .exit)) (now (written .entry)) (now (written .exit)) ⌝ }
+        r (now (place .exit)) (now (byte .exit)) (now (written .entry)) (now (written .exit)) ⌝ }
     ensures output { λ _. ⌜ now (out .exit) ≡ held (expand (now (file .entry)) (now (locale .entry)) (now (location .entry)) (now (list .entry)) run) (now (out .entry)) ⌝ }
 {
     let n = run as usize;
     tell_written(
         exec::expand(file, locale, location, list, n, out),
         place,
+        byte,
         written,
     )
 }

@@ -41,12 +41,12 @@ int main(int argc, char **argv) {
     fclose(entry);
     size_t listed = add(list, add(list, 0, "/home/a b.odt"), "/home/c.odt");
     double times[ROUNDS];
-    uint64_t place, written = 0;
+    uint64_t place, byte, written = 0;
     for (int round = 0; round < ROUNDS; round++) {
         double start = seconds();
         for (int call = 0; call < CALLS; call++) {
             uint32_t code = kveldrim_expand(file, size, (const uint8_t *)"de", 2, (const uint8_t *)"", 0,
-                                            list, listed, 0, out, sizeof out, &place, &written);
+                                            list, listed, 0, out, sizeof out, &place, &byte, &written);
             if (code) {
                 fprintf(stderr, "refused %u at %lu\n", code, (unsigned long)place);
                 return 1;

@@ -7,7 +7,7 @@ use std::process::ExitCode;
 
 use kveldrim::{Refusal, DESKTOP_ENTRY};
 
-use crate::report::{line_and_byte, refused, Trouble};
+use crate::report::{refused, Trouble};
 
 /// What is asked.
 #[derive(Default)]
@@ -244,9 +244,8 @@ fn trouble(asked: &Asked, file: &[u8], refusal: Refusal) -> Trouble {
         7 => say("the locale is not well written (as de, de_AT, de_AT.UTF-8 or de_AT.UTF-8@euro)"),
         8 => say(&missing(asked, file)),
         9 | 15 | 16 => {
-            let (line, byte) = line_and_byte(file, place_in_file(asked, file, refusal));
-            let place = format!("{line}:{byte}:");
-            refused(&asked.file, &place, refusal.words().as_bytes())
+            let offset = place_in_file(asked, file, refusal);
+            Trouble::at(&asked.file, file, offset, refusal.words())
         }
         10 => say("the name of a file to open is empty, or the location is over 4,096 bytes"),
         14 => say("the names of the files to open are over 65,536 bytes, with 6 more for each"),

@@ -5,6 +5,7 @@
 
 mod arguments;
 mod disk;
+mod excerpt;
 mod expand;
 mod journal;
 #[cfg(test)]
@@ -61,7 +62,8 @@ Edits are kept in a journal beside the file, .NAME.kveldrim-journal. A call chan
 at a time; a file that another program has changed since its last edit is not touched.
 
 A word -- ends the options. Values are written as the bytes they are, with a line feed after each. Faults are told as
-FILE:LINE:BYTE: what is wrong, as far as line and byte are known; both count from 1.
+FILE:LINE:BYTE: what is wrong, as far as line and byte are known; both count from 1. On a terminal the line follows, with
+a caret under the byte.
 
 Exit status: 0 all is well; 1 a file, a question or an edit was refused; 2 bad usage, or a file that cannot be read or
 written.

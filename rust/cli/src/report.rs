@@ -1,41 +1,52 @@
-//! What goes wrong, told on standard error in one line: `FILE:LINE:BYTE: words`, so that editors jump there.
+//! What goes wrong, told on standard error in one line: `FILE:LINE:BYTE: words`, so that editors jump there. On a terminal the
+//! line of the file follows where the byte in it is known.
 
 use std::ffi::OsStr;
-use std::io::{self, Write};
+use std::io::{self, IsTerminal, Write};
 use std::os::unix::ffi::OsStrExt;
 use std::process::ExitCode;
 
 use kveldrim::{Place, Refusal, DESKTOP_ENTRY};
 
 use crate::arguments::{Change, Wanted};
+use crate::excerpt::excerpt;
 
-/// A message and the exit status that goes with it.
+/// A message, the exit status that goes with it, and what a terminal is shown besides.
 pub struct Trouble {
     message: Vec<u8>,
     status: u8,
+    excerpt: String,
 }
 
 const REFUSED: u8 = 1;
 const UNUSABLE: u8 = 2;
 
 impl Trouble {
+    fn new(message: Vec<u8>, status: u8) -> Trouble {
+        Trouble {
+            message,
+            status,
+            excerpt: String::new(),
+        }
+    }
+
     pub fn status(&self) -> u8 {
         self.status
     }
 
     /// Writes the message; a message that cannot be written leaves at least the status.
     pub fn tell(&self) -> ExitCode {
-        let mut line = self.message.clone();
-        line.push(b'\n');
-        let _ = io::stderr().write_all(&line);
+        let mut lines = [&self.message[..], b"\n"].concat();
+        if io::stderr().is_terminal() {
+            lines.extend(self.excerpt.as_bytes());
+        }
+        let _ = io::stderr().write_all(&lines);
         ExitCode::from(self.status)
     }
 
     pub fn usage(fault: &[u8]) -> Trouble {
-        Trouble {
-            message: [b"kveldrim: ", fault, b" (kveldrim --help tells more)"].concat(),
-            status: UNUSABLE,
-        }
+        let message = [b"kveldrim: ", fault, b" (kveldrim --help tells more)"].concat();
+        Trouble::new(message, UNUSABLE)
     }
 
     pub fn unreadable(file: &OsStr, error: &io::Error) -> Trouble {
@@ -63,10 +74,8 @@ impl Trouble {
     }
 
     pub fn unwritable(error: &io::Error) -> Trouble {
-        Trouble {
-            message: format!("kveldrim: the answer cannot be written: {error}").into(),
-            status: UNUSABLE,
-        }
+        let message = format!("kveldrim: the answer cannot be written: {error}");
+        Trouble::new(message.into(), UNUSABLE)
     }
 
     /// A refusal of the file itself.
@@ -76,8 +85,27 @@ impl Trouble {
             _ => refusal.words(),
         };
         match refusal.at() {
+            Place::Byte { line, byte } => {
+                let start = line_start(bytes, line as usize);
+                Trouble::at(file, bytes, start + byte as usize, words)
+            }
             Place::Line(line) => refused(file, &format!("{line}:"), words.as_bytes()),
             _ => refused(file, "", words.as_bytes()),
+        }
+    }
+
+    /// Something wrong at an offset in the file.
+    pub fn at(file: &OsStr, bytes: &[u8], offset: usize, words: &str) -> Trouble {
+        let before = &bytes[..offset];
+        let start = before.iter().rposition(|byte| *byte == b'\n');
+        let start = start.map_or(0, |at| at + 1);
+        let line = before.iter().filter(|byte| **byte == b'\n').count() + 1;
+        let byte = offset - start;
+        let end = bytes[start..].iter().position(|byte| *byte == b'\n');
+        let end = end.map_or(bytes.len(), |length| start + length);
+        Trouble {
+            excerpt: excerpt(&bytes[start..end], byte),
+            ..refused(file, &format!("{line}:{}:", byte + 1), words.as_bytes())
         }
     }
 
@@ -124,11 +152,12 @@ impl Trouble {
     /// A refusal of a value that starts at `start` in the file.
     pub fn of_value(wanted: &Wanted, bytes: &[u8], start: usize, refusal: Refusal) -> Trouble {
         match refusal.at() {
-            Place::Offset(offset) => {
-                let (line, byte) = line_and_byte(bytes, start + offset as usize);
-                let place = format!("{line}:{byte}:");
-                refused(&wanted.file, &place, refusal.words().as_bytes())
-            }
+            Place::Offset(offset) => Trouble::at(
+                &wanted.file,
+                bytes,
+                start + offset as usize,
+                refusal.words(),
+            ),
             _ => Trouble::of_file(&wanted.file, bytes, refusal),
         }
     }
@@ -154,17 +183,12 @@ fn of_journal(file: &OsStr, before: &[u8], journal: &OsStr, after: &[u8]) -> Tro
 
 fn unusable(file: &OsStr, what: &str, error: &io::Error) -> Trouble {
     let words = format!(": {what}: {error}");
-    Trouble {
-        message: [file.as_bytes(), words.as_bytes()].concat(),
-        status: UNUSABLE,
-    }
+    Trouble::new([file.as_bytes(), words.as_bytes()].concat(), UNUSABLE)
 }
 
 pub fn refused(file: &OsStr, place: &str, words: &[u8]) -> Trouble {
-    Trouble {
-        message: [file.as_bytes(), b":", place.as_bytes(), b" ", words].concat(),
-        status: REFUSED,
-    }
+    let message = [file.as_bytes(), b":", place.as_bytes(), b" ", words].concat();
+    Trouble::new(message, REFUSED)
 }
 
 /// Which key is missing in a file that is refused as incomplete (18) without a line.
@@ -178,10 +202,8 @@ fn missing_key(bytes: &[u8]) -> &'static str {
     }
 }
 
-/// The line of an offset in the file and the byte in that line, both from 1.
-pub fn line_and_byte(bytes: &[u8], offset: usize) -> (usize, usize) {
-    let before = &bytes[..offset];
-    let feeds = before.iter().filter(|byte| **byte == b'\n').count();
-    let start = before.iter().rposition(|byte| *byte == b'\n');
-    (feeds + 1, offset - start.map_or(0, |at| at + 1) + 1)
+/// Where a line starts in the file; lines count from 1.
+fn line_start(bytes: &[u8], line: usize) -> usize {
+    let before = bytes.split_inclusive(|byte| *byte == b'\n');
+    before.take(line - 1).map(<[u8]>::len).sum()
 }

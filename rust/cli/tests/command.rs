@@ -30,7 +30,7 @@ fn check_tells_file_and_line() {
     outcome.tells(
         1,
         &[
-            "bad:2: this line is not",
+            "bad:2:5: this line is not",
             "empty: the file has no header",
             "first:2: before this line",
             "group:3: a group of this name",
@@ -39,6 +39,85 @@ fn check_tells_file_and_line() {
             "long: the file is over 32,768 bytes",
         ],
     );
+}
+
+/// The byte counts from 1; a line that is only unfinished is told behind its end.
+#[test]
+fn every_command_tells_the_byte_of_a_bad_line() {
+    let folder = Folder::new()
+        .with(b"tab", b"[Desktop Entry]\nName\t=x\n")
+        .with(b"cut", b"[Desktop Entry]\nName[de")
+        .with(b"header", b"[Desktop Entry]\r\nName=x\n")
+        .with(b"latin", b"[Desktop Entry]\nName=M\xFCller\n");
+    folder
+        .run(&[b"check", b"tab", b"cut", b"header", b"latin"])
+        .tells(
+            1,
+            &["tab:2:5: ", "cut:2:8: ", "header:1:16: ", "latin:2:7: "],
+        );
+    let commands: &[&[&[u8]]] = &[
+        &[b"complete", b"tab"],
+        &[b"get", b"tab", b"Name"],
+        &[b"get", b"tab", b"Name", b"--locale", b"de"],
+        &[b"list", b"tab", b"Name"],
+        &[b"set", b"tab", b"Name", b"y"],
+        &[b"remove", b"tab", b"Name"],
+        &[b"undo", b"tab"],
+        &[b"redo", b"tab"],
+        &[b"expand", b"tab"],
+    ];
+    for words in commands {
+        folder.run(words).tells(1, &["tab:2:5: this line is not"]);
+    }
+    assert_eq!(folder.read("tab"), b"[Desktop Entry]\nName\t=x\n");
+}
+
+#[test]
+fn a_terminal_is_shown_the_line() {
+    let folder = Folder::new()
+        .with(b"tab", b"[Desktop Entry]\nName\t=x\n")
+        .with(b"latin", b"[Desktop Entry]\nName=M\xFCller\n")
+        .with(b"escape", b"[Desktop Entry]\nName =  ab\\q\n")
+        .with(b"exec", b"[Desktop Entry]\nExec=view 'a'\n")
+        .with(b"twice", b"[Desktop Entry]\na=1\na=2\n");
+    let shown = |words: &[&str], expected: [&str; 3]| {
+        let (status, told) = folder.run_on_terminal(words);
+        assert_eq!(status, 1);
+        let lines: Vec<&str> = told.lines().collect();
+        assert!(lines[0].starts_with(expected[0]), "{told}");
+        assert_eq!(lines[1..], expected[1..], "{told}");
+    };
+    shown(
+        &["check", "tab"],
+        ["tab:2:5: this line is not", "    Name^I=x", "        ^"],
+    );
+    shown(
+        &["get", "latin", "Name"],
+        [
+            "latin:2:7: this line is not",
+            "    Name=M\\xFCller",
+            "          ^",
+        ],
+    );
+    shown(
+        &["get", "escape", "Name"],
+        [
+            "escape:2:11: unknown or",
+            "    Name =  ab\\q",
+            "              ^",
+        ],
+    );
+    shown(
+        &["expand", "exec"],
+        [
+            "exec:2:11: Exec is badly",
+            "    Exec=view 'a'",
+            "              ^",
+        ],
+    );
+    // Where no byte is known, nothing follows.
+    let (status, told) = folder.run_on_terminal(&["check", "twice"]);
+    assert_eq!((status, told.lines().count()), (1, 1), "{told}");
 }
 
 #[test]
@@ -70,7 +149,7 @@ fn complete_tells_what_is_missing() {
             "exec: the key Exec is missing",
             "url: the key URL is missing",
             "boolean:4: Type must be",
-            "bad:2: this line is not",
+            "bad:2:1: this line is not",
         ],
     );
 }
@@ -78,9 +157,10 @@ fn complete_tells_what_is_missing() {
 #[test]
 fn a_file_that_cannot_be_read_is_2() {
     let folder = Folder::new().with(b"bad", b"x\n");
-    folder
-        .run(&[b"check", b"none", b"bad", b"."])
-        .tells(2, &["none: cannot be read", "bad:1: ", ".: cannot be read"]);
+    folder.run(&[b"check", b"none", b"bad", b"."]).tells(
+        2,
+        &["none: cannot be read", "bad:1:2: ", ".: cannot be read"],
+    );
     folder
         .run(&[b"get", b"none", b"Name"])
         .tells(2, &["none: cannot be read"]);
@@ -156,7 +236,7 @@ fn get_tells_refusals() {
         &[b"get", b"escape", b"Name"],
         "escape:3:11: unknown or unfinished escape",
     );
-    refused(&[b"get", b"bad", b"Name"], "bad:2: ");
+    refused(&[b"get", b"bad", b"Name"], "bad:2:1: ");
     folder
         .run(&[b"get", b"escape", b"Name", b"--raw"])
         .writes(b"ab\\q\n");
@@ -190,7 +270,7 @@ fn bytes_are_not_altered() {
         .run(&[b"get", b"f\xFF", b"B"])
         .writes("Mu\u{308}ller\n".as_bytes());
     let outcome = folder.run(&[b"check", b"\xC0"]);
-    assert!(outcome.told.starts_with(b"\xC0:1: "));
+    assert!(outcome.told.starts_with(b"\xC0:1:2: "));
     let outcome = folder.run(&[b"get", b"f\xFF", b"\xFE"]);
     assert!(outcome.told.starts_with(b"f\xFF: "));
     assert_eq!(outcome.status, 1);

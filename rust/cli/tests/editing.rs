@@ -156,8 +156,8 @@ fn refused_edits_change_nothing() {
         &["set", "t", "Name", &"x".repeat(40_000)],
         "t: the file would be over 32,768",
     );
-    refuses(&["set", "bad", "Name", "x"], "bad:2: this line is not");
-    refuses(&["undo", "bad"], "bad:2: this line is not");
+    refuses(&["set", "bad", "Name", "x"], "bad:2:5: this line is not");
+    refuses(&["undo", "bad"], "bad:2:5: this line is not");
     refuses(
         &["set", "long", "Name", "x"],
         "long: the file is over 32,768 bytes",

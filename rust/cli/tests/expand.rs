@@ -228,7 +228,7 @@ fn refusals_are_told_in_words() {
         .tells(1, "t: there is no key Name");
     let bad = Folder::with_lines(b"x\n");
     bad.expand(&[b"--runs", b"t"])
-        .tells(1, "t:3: this line is not blank");
+        .tells(1, "t:3:2: this line is not blank");
 }
 
 #[test]

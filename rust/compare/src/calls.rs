@@ -3,6 +3,7 @@
 use std::collections::BTreeMap;
 
 use kveldrim::ffi;
+use reference::Refusal;
 
 use crate::edits::{self, List};
 use crate::expand::Question;
@@ -33,9 +34,6 @@ pub struct Ask {
     pub plain: Vec<u8>,
     pub locale: Vec<u8>,
 }
-
-/// The reference's answer in numbers, or the refusal's number and place.
-type Expected = Result<Vec<u64>, (u32, u64)>;
 
 impl Case {
     /// The bytes that the question is about.
@@ -116,16 +114,26 @@ pub(crate) fn named(
     })
 }
 
-pub(crate) fn refusal(refusal: reference::Refusal) -> (u32, u64) {
-    (refusal.number, refusal.place)
+/// A refusal of the bindings, to be held against one of the reference.
+pub(crate) fn refusal(refusal: kveldrim::Refusal) -> Refusal {
+    let kveldrim::Refusal {
+        number,
+        place,
+        byte,
+    } = refusal;
+    Refusal {
+        number,
+        place,
+        byte,
+    }
 }
 
 /// Whether the bindings answer as the reference does.
 pub(crate) fn bound<A: PartialEq + std::fmt::Debug>(
     answer: Result<A, kveldrim::Refusal>,
-    expected: Result<A, (u32, u64)>,
+    expected: Result<A, Refusal>,
 ) -> Result<(), String> {
-    let answer = answer.map_err(|refusal| (refusal.number, refusal.place));
+    let answer = answer.map_err(refusal);
     if answer == expected {
         return Ok(());
     }
@@ -135,7 +143,7 @@ pub(crate) fn bound<A: PartialEq + std::fmt::Debug>(
 }
 
 /// A value's two ends as numbers.
-fn ends(expected: Result<(usize, usize), (u32, u64)>) -> Expected {
+fn ends(expected: Result<(usize, usize), Refusal>) -> Result<Vec<u64>, Refusal> {
     expected.map(|(from, to)| vec![from as u64, to as u64])
 }
 
@@ -143,7 +151,7 @@ fn ends(expected: Result<(usize, usize), (u32, u64)>) -> Expected {
 fn part(
     file: &[u8],
     answer: Result<&[u8], kveldrim::Refusal>,
-    expected: Result<(usize, usize), (u32, u64)>,
+    expected: Result<(usize, usize), Refusal>,
 ) -> Result<(), String> {
     let start = file.as_ptr() as usize;
     let ends = answer.map(|value| {
@@ -176,16 +184,21 @@ impl Asker {
         Lent::new(bytes, &mut self.random)
     }
 
-    pub(crate) fn count<A>(&mut self, call: &'static str, expected: &Result<A, (u32, u64)>) {
-        let number = expected.as_ref().err().map_or(0, |refusal| refusal.0);
+    pub(crate) fn count<A>(&mut self, call: &'static str, expected: &Result<A, Refusal>) {
+        let number = expected.as_ref().err().map_or(0, |refusal| refusal.number);
         *self.tally.entry((call, number)).or_default() += 1;
     }
 
     pub fn check(&mut self, file: &[u8]) -> Result<(), String> {
+        self.check_by(ffi::kveldrim_check, file)
+    }
+
+    /// A check of any library, held against the reference; the bindings too.
+    pub fn check_by(&mut self, call: ffi::FileCall, file: &[u8]) -> Result<(), String> {
         self.file_call(
             "check",
             file,
-            ffi::kveldrim_check,
+            call,
             reference::check(file),
             kveldrim::check(file),
         )
@@ -207,16 +220,15 @@ impl Asker {
         name: &'static str,
         file: &[u8],
         call: ffi::FileCall,
-        expected: Result<(), reference::Refusal>,
+        expected: Result<(), Refusal>,
         answer: Result<(), kveldrim::Refusal>,
     ) -> Result<(), String> {
-        let expected = expected.map_err(refusal);
         self.count(name, &expected);
         let lent = self.lend(file);
         let mut numbers = Numbers::new();
-        let [place, ..] = numbers.pointers();
-        // SAFETY: the bytes and the number outlive the call.
-        let result = unsafe { call(lent.pointer(), lent.len(), place) };
+        let [place, byte, ..] = numbers.pointers();
+        // SAFETY: the bytes and the numbers outlive the call.
+        let result = unsafe { call(lent.pointer(), lent.len(), place, byte) };
         let outcome = numbers
             .tell(result, &expected.map(|()| Vec::new()))
             .and_then(|()| lent.holds(file))
@@ -230,8 +242,8 @@ impl Asker {
         self.value_call(
             "lookup",
             [file, group, key],
-            |[(file, f), (group, g), (key, k)], [place, from, to, _]| unsafe {
-                ffi::kveldrim_lookup(file, f, group, g, key, k, place, from, to)
+            |[(file, f), (group, g), (key, k)], [place, byte, from, to, _]| unsafe {
+                ffi::kveldrim_lookup(file, f, group, g, key, k, place, byte, from, to)
             },
             reference::lookup(file, group, key),
             kveldrim::lookup(file, group, key),
@@ -244,8 +256,8 @@ impl Asker {
         self.value_call(
             "choose",
             [file, group, key, locale],
-            |[(file, f), (group, g), (key, k), (locale, l)], [place, from, to, _]| unsafe {
-                ffi::kveldrim_choose(file, f, group, g, key, k, locale, l, place, from, to)
+            |[(file, f), (group, g), (key, k), (locale, l)], [place, byte, from, to, _]| unsafe {
+                ffi::kveldrim_choose(file, f, group, g, key, k, locale, l, place, byte, from, to)
             },
             reference::choose(file, group, key, locale),
             kveldrim::choose(file, group, key, locale),
@@ -253,16 +265,15 @@ impl Asker {
     }
 
     /// A call that finds a value in a file, the first of its arguments. It gets each argument by pointer and length, and
-    /// pointers to its place and the two ends. The answers are those of the reference and of the bindings.
+    /// pointers to its place and byte and the two ends. The answers are those of the reference and of the bindings.
     fn value_call<const N: usize>(
         &mut self,
         name: &'static str,
         arguments: [&[u8]; N],
-        call: impl Fn([(*const u8, usize); N], [*mut u64; 4]) -> u32,
-        expected: Result<(usize, usize), reference::Refusal>,
+        call: impl Fn([(*const u8, usize); N], [*mut u64; 5]) -> u32,
+        expected: Result<(usize, usize), Refusal>,
         answer: Result<&[u8], kveldrim::Refusal>,
     ) -> Result<(), String> {
-        let expected = expected.map_err(refusal);
         self.count(name, &expected);
         let lent = arguments.map(|bytes| self.lend(bytes));
         let mut numbers = Numbers::new();
@@ -277,7 +288,7 @@ impl Asker {
     }
 
     pub fn read_text(&mut self, raw: &[u8]) -> Result<(), String> {
-        let whole = reference::text::unescape(raw).map_err(refusal);
+        let whole = reference::text::unescape(raw);
         let length = whole.as_ref().map_or(raw.len(), Vec::len);
         let outcome = self
             .output_calls(
@@ -292,7 +303,7 @@ impl Asker {
     }
 
     pub fn write_text(&mut self, text: &[u8]) -> Result<(), String> {
-        let whole = reference::text::escape(text).map_err(refusal);
+        let whole = reference::text::escape(text);
         let length = whole.as_ref().map_or(text.len(), Vec::len);
         let outcome = self
             .output_calls(
@@ -307,7 +318,7 @@ impl Asker {
     }
 
     pub fn read_list(&mut self, raw: &[u8]) -> Result<(), String> {
-        let whole = reference::text::split_list(raw).map_err(refusal);
+        let whole = reference::text::split_list(raw);
         let length = whole.as_ref().map_or(raw.len(), |elements| {
             elements.iter().map(|element| 6 + element.len()).sum()
         });
@@ -330,7 +341,7 @@ impl Asker {
         input: &[u8],
         length: usize,
         call: ffi::OutputCall,
-        reference: fn(&[u8], &mut [u8]) -> Result<usize, reference::Refusal>,
+        reference: fn(&[u8], &mut [u8]) -> Result<usize, Refusal>,
     ) -> Result<(), String> {
         let some = self.random.below(length + 1);
         let more = length + self.random.within(1, 40);
@@ -340,10 +351,10 @@ impl Asker {
             let lent = self.lend(input);
             let mut out = Lent::output(size, &mut self.random);
             let mut expected_out = out.bytes().to_vec();
-            let expected = reference(input, &mut expected_out).map_err(refusal);
+            let expected = reference(input, &mut expected_out);
             self.count(name, &expected);
-            let mut numbers = Numbers::new();
-            let [place, written, ..] = numbers.pointers();
+            let mut numbers = Numbers::without_byte();
+            let [place, _, written, ..] = numbers.pointers();
             // SAFETY: the bytes and the numbers outlive the call.
             let result = unsafe {
                 call(

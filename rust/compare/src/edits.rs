@@ -4,7 +4,7 @@
 use kveldrim::{ffi, Buffers};
 use reference::{Book, Refusal, State};
 
-use crate::calls::{bound, named, refusal, Asker};
+use crate::calls::{bound, named, Asker};
 use crate::lent::{Lent, Numbers};
 
 #[derive(Clone, Copy, PartialEq, Eq)]
@@ -40,6 +40,7 @@ pub struct Given {
     pub used: *mut u64,
     pub standing: *mut u64,
     pub place: *mut u64,
+    pub byte: *mut u64,
 }
 
 /// Makes a call of the C interface with what is given and these of the arguments.
@@ -57,6 +58,7 @@ macro_rules! made {
                 $given.standing,
                 $($argument.0, $argument.1,)*
                 $given.place,
+                $given.byte,
             )
         }
     };
@@ -219,7 +221,7 @@ impl Asker {
         let mut journal = self.lend(&state.journal);
         for (at, call) in list.calls.iter().enumerate() {
             let given = Numbers::given(numbers(&state));
-            let expected = call.on_state(&mut state).map_err(refusal);
+            let expected = call.on_state(&mut state);
             self.count(call.name(), &expected);
             let outcome = self
                 .edit(
@@ -251,11 +253,11 @@ impl Asker {
         mut given: Numbers,
         [file, journal]: [&mut Lent; 2],
         state: &State,
-        expected: Result<(), (u32, u64)>,
+        expected: Result<(), Refusal>,
         editor: &dyn Fn(&Call, &Given) -> u32,
     ) -> Result<(), String> {
         let arguments = call.arguments().map(|argument| self.lend(argument));
-        let [place, file_len, used, standing] = given.pointers();
+        let [place, byte, file_len, used, standing] = given.pointers();
         let result = editor(
             call,
             &Given {
@@ -268,6 +270,7 @@ impl Asker {
                 used,
                 standing,
                 place,
+                byte,
             },
         );
         let mut kept = arguments.iter().zip(call.arguments());
@@ -284,7 +287,7 @@ fn on_bindings(
     call: &Call,
     own: &mut State,
     state: &State,
-    expected: Result<(), (u32, u64)>,
+    expected: Result<(), Refusal>,
 ) -> Result<(), String> {
     let mut three = kveldrim::Numbers {
         file_len: own.file_len,
@@ -311,9 +314,9 @@ fn on_book(
     call: &Call,
     book: &mut Book,
     state: &State,
-    expected: Result<(), (u32, u64)>,
+    expected: Result<(), Refusal>,
 ) -> Result<(), String> {
-    let told = call.on_book(book).map_err(refusal);
+    let told = call.on_book(book);
     let file = &state.file[..state.file_len as usize];
     if (told, &book.file()[..], book.standing()) == (expected, file, state.standing) {
         return Ok(());

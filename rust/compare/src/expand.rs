@@ -4,8 +4,9 @@
 use std::fmt;
 
 use kveldrim::ffi::kveldrim_expand;
+use reference::Refusal;
 
-use crate::calls::Asker;
+use crate::calls::{refusal, Asker};
 use crate::files::spoil;
 use crate::lent::{Lent, Numbers};
 use crate::pieces::{self, MULLER};
@@ -30,7 +31,7 @@ pub struct Question {
     pub seed: u64,
 }
 
-type Told<A> = Result<A, (u32, u64)>;
+type Told<A> = Result<A, Refusal>;
 
 impl Question {
     /// A question without locale, location and items.
@@ -95,7 +96,7 @@ impl Question {
         let mut out = vec![0; 4_096];
         loop {
             match self.reference(&mut out) {
-                Err((11, _)) => out.resize(out.len() * 4, 0),
+                Err(Refusal { number: 11, .. }) => out.resize(out.len() * 4, 0),
                 told => return told.map(|written| out[..written].to_vec()),
             }
         }
@@ -104,7 +105,6 @@ impl Question {
     fn reference(&self, out: &mut [u8]) -> Told<usize> {
         let (file, locale, location) = (&self.file, &self.locale, &self.location);
         reference::expand(file, locale, location, &self.list, self.run, out)
-            .map_err(|refusal| (refusal.number, refusal.place))
     }
 
     /// The call itself, with every buffer between guards.
@@ -112,13 +112,13 @@ impl Question {
         let mut out = Lent::output(size, random);
         let mut expected_out = out.bytes().to_vec();
         let expected = self.reference(&mut expected_out);
-        let told = expected.map_or_else(|refusal| refusal.0, |_| 0);
+        let told = expected.map_or_else(|refusal| refusal.number, |_| 0);
         *asker.tally.entry(("expand", told)).or_default() += 1;
         let inputs = [&self.file, &self.locale, &self.location, &self.list];
         let lent = inputs.map(|bytes| Lent::new(bytes, random));
         let [file, locale, location, list] = &lent;
         let mut numbers = Numbers::new();
-        let [place, written, ..] = numbers.pointers();
+        let [place, byte, written, ..] = numbers.pointers();
         // SAFETY: the bytes and the numbers outlive the call.
         let result = unsafe {
             kveldrim_expand(
@@ -134,6 +134,7 @@ impl Question {
                 out.pointer_mut(),
                 out.len(),
                 place,
+                byte,
                 written,
             )
         };
@@ -157,7 +158,7 @@ impl Question {
         if expected.is_ok() {
             let expected = reference::runs(file, locale, location, &self.list);
             let runs = kveldrim::runs(file, locale, location, items);
-            same("runs", told(runs), &expected.map_err(|_| (0, 0)))?;
+            same("runs", told(runs), &expected)?;
         }
         Ok(())
     }
@@ -175,7 +176,7 @@ impl fmt::Display for Question {
 }
 
 fn told<A>(answer: Result<A, kveldrim::Refusal>) -> Told<A> {
-    answer.map_err(|refusal| (refusal.number, refusal.place))
+    answer.map_err(refusal)
 }
 
 fn same<A: PartialEq + fmt::Debug>(

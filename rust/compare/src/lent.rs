@@ -1,5 +1,7 @@
 //! What is lent to a call: bytes and numbers with guards on both sides, so that a stray write shows.
 
+use reference::Refusal;
+
 use crate::random::Random;
 
 /// Guard bytes that would go on with whatever stands beside them, so that reading too far changes an answer.
@@ -86,9 +88,10 @@ impl Lent {
     }
 }
 
-/// The numbers of a call: its place and up to three more, which may go in as well as come out, with guards between them.
+/// The numbers of a call: its place, its byte and up to three more, which may go in as well as come out, with guards between
+/// them.
 pub struct Numbers {
-    slots: [u64; 9],
+    slots: [u64; 11],
     given: [u64; 3],
 }
 
@@ -102,48 +105,61 @@ impl Numbers {
 
     /// Three numbers that go in.
     pub fn given(given: [u64; 3]) -> Numbers {
-        let mut slots = [BEFORE; 9];
-        [slots[3], slots[5], slots[7]] = given;
+        let mut slots = [BEFORE; 11];
+        [slots[5], slots[7], slots[9]] = given;
         Numbers { slots, given }
     }
 
-    /// Pointers to the place and the three further numbers.
-    pub fn pointers(&mut self) -> [*mut u64; 4] {
-        let start = self.slots.as_mut_ptr();
-        [1, 3, 5, 7].map(|slot| start.wrapping_add(slot))
+    /// Those of a call that is lent no byte, which is then 0.
+    pub fn without_byte() -> Numbers {
+        let mut numbers = Numbers::new();
+        numbers.slots[3] = 0;
+        numbers
     }
 
-    /// Whether the call told this: the numbers of its answer, or a refusal's number and place.
-    pub fn tell(&self, result: u32, expected: &Result<Vec<u64>, (u32, u64)>) -> Result<(), String> {
-        let (number, place, answer) = match expected {
-            Ok(answer) => (0, 0, &answer[..]),
-            Err((number, place)) => (*number, *place, &[][..]),
+    /// Pointers to the place, the byte and the three further numbers.
+    pub fn pointers(&mut self) -> [*mut u64; 5] {
+        let start = self.slots.as_mut_ptr();
+        [1, 3, 5, 7, 9].map(|slot| start.wrapping_add(slot))
+    }
+
+    /// Whether the call told this: the numbers of its answer, or a refusal.
+    pub fn tell(&self, result: u32, expected: &Result<Vec<u64>, Refusal>) -> Result<(), String> {
+        let (refusal, answer) = match expected {
+            Ok(answer) => (Refusal::new(0), &answer[..]),
+            Err(refusal) => (*refusal, &[][..]),
         };
         if self.slots.iter().step_by(2).any(|guard| *guard != BEFORE) {
             return Err("a number beside the lent ones was written".into());
         }
         let more = [0, 1, 2].map(|at| answer.get(at).copied().unwrap_or(self.given[at]));
-        let [_, told, _, first, _, second, _, third, _] = self.slots;
-        let found = (result, told, [first, second, third]);
-        if found == (number, place, more) {
+        let [_, place, _, byte, _, first, _, second, _, third, _] = self.slots;
+        let told = Refusal {
+            number: result,
+            place,
+            byte,
+        };
+        let found = [first, second, third];
+        if (told, found) == (refusal, more) {
             return Ok(());
         }
         Err(format!(
             "the library tells  {}\nthe reference      {}",
-            words(found),
-            words((number, place, more))
+            words(told, found),
+            words(refusal, more)
         ))
     }
 }
 
-/// A result, its place and its further numbers.
-fn words((result, place, numbers): (u32, u64, [u64; 3])) -> String {
+/// A result, its place and byte and its further numbers.
+fn words(told: Refusal, numbers: [u64; 3]) -> String {
     let word = |number| match number {
         BEFORE => "-".to_string(),
         number => number.to_string(),
     };
-    let (place, [first, second, third]) = (word(place), numbers.map(word));
-    format!("result {result}, place {place}, numbers {first} {second} {third} (-: not written)")
+    let (result, place, byte) = (told.number, word(told.place), word(told.byte));
+    let [first, second, third] = numbers.map(word);
+    format!("result {result}, place {place}, byte {byte}, numbers {first} {second} {third} (-: not written)")
 }
 
 impl Default for Numbers {

@@ -11,7 +11,9 @@ fn read(path: &str) -> String {
 /// The part of a page under a heading of the second level.
 fn section(page: &str, heading: &str) -> String {
     let text = read(page);
-    let from = text.find(&format!("\n## {heading}\n")).unwrap_or_else(|| panic!("{page} has no part `{heading}`"));
+    let from = text
+        .find(&format!("\n## {heading}\n"))
+        .unwrap_or_else(|| panic!("{page} has no part `{heading}`"));
     let rest = &text[from + 1..];
     rest[..rest.find("\n## ").unwrap_or(rest.len())].to_string()
 }
@@ -34,12 +36,20 @@ fn rows(text: &str) -> Vec<Vec<&str>> {
 fn each_theorem_of_the_readme_is_in_its_file() {
     let mut seen = 0;
     for row in rows(&section("README.md", "What is proved, and what is not")) {
-        let [_, theorems, file] = row[..] else { panic!("{row:?}") };
+        let [_, theorems, file] = row[..] else {
+            panic!("{row:?}")
+        };
         let text = read(quoted(file)[0]);
         assert!(!quoted(theorems).is_empty(), "{row:?}");
         for theorem in quoted(theorems) {
-            let defined = [format!("pub {theorem} : "), format!("pub record {theorem} : ")];
-            assert!(defined.iter().any(|d| text.contains(d)), "{theorem} is not in {file}");
+            let defined = [
+                format!("pub {theorem} : "),
+                format!("pub record {theorem} : "),
+            ];
+            assert!(
+                defined.iter().any(|d| text.contains(d)),
+                "{theorem} is not in {file}"
+            );
             seen += 1;
         }
     }
@@ -49,7 +59,10 @@ fn each_theorem_of_the_readme_is_in_its_file() {
 #[test]
 fn each_definition_of_the_architecture_is_in_its_file() {
     let mut seen = 0;
-    for row in rows(&section("docs/ARCHITECTURE.md", "Where each rule of 01 lives")) {
+    for row in rows(&section(
+        "docs/ARCHITECTURE.md",
+        "Where each rule of 01 lives",
+    )) {
         let mut directory = "";
         for place in row[1].split(';').filter(|place| !place.trim().is_empty()) {
             let (file, names) = place.split_once(':').unwrap_or_else(|| panic!("{place}"));
@@ -61,9 +74,14 @@ fn each_definition_of_the_architecture_is_in_its_file() {
             let text = read(&path);
             for name in quoted(names) {
                 let defined = ["", "record ", "data "].iter().any(|kind| {
-                    [" :", " (", " {"].iter().any(|next| text.contains(&format!("pub {kind}{name}{next}")))
+                    [" :", " (", " {"]
+                        .iter()
+                        .any(|next| text.contains(&format!("pub {kind}{name}{next}")))
                 });
-                assert!(defined || text.contains(&format!("\n  {name} : ")), "{name} is not in {path}");
+                assert!(
+                    defined || text.contains(&format!("\n  {name} : ")),
+                    "{name} is not in {path}"
+                );
                 seen += 1;
             }
         }
@@ -77,9 +95,15 @@ fn each_form_is_at_its_line() {
     let text = section("docs/DECISIONS.md", "Forms that 01 names");
     let words = quoted(&text);
     for (i, word) in words.iter().enumerate() {
-        let Some((path, line)) = word.rsplit_once(':') else { continue };
-        let Ok(number) = line.parse::<usize>() else { continue };
-        let code = words.get(i + 1).unwrap_or_else(|| panic!("{word}: no code is named"));
+        let Some((path, line)) = word.rsplit_once(':') else {
+            continue;
+        };
+        let Ok(number) = line.parse::<usize>() else {
+            continue;
+        };
+        let code = words
+            .get(i + 1)
+            .unwrap_or_else(|| panic!("{word}: no code is named"));
         let there = read(path);
         let found = there.lines().nth(number - 1).unwrap_or("");
         assert!(found.contains(code), "{word} is not `{code}` but `{found}`");

@@ -179,6 +179,31 @@ fn utf8_borders() {
     }
 }
 
+/// The bytes that decide what a line is, and where it goes wrong.
+const LINE_BYTES: &[u8] = b"[]a=_.@ \t#;\x80\xC3\xE0\x7F";
+
+/// Every line of up to five of them, with its LF and as the last one without, behind good lines.
+#[test]
+fn short_lines() {
+    let mut asker = Asker::new(3);
+    let kinds = LINE_BYTES.len();
+    for length in 0..=5 {
+        for number in 0..kinds.pow(length) {
+            let at = |power| LINE_BYTES[number / kinds.pow(power) % kinds];
+            let line: Vec<u8> = (0..length).map(at).collect();
+            let end: &[u8] = if number % 2 == 0 { b"\n#\n" } else { b"" };
+            let file = [b"[Desktop Entry]\nb=\n", &line[..], end].concat();
+            if let Err(difference) = asker.check(&file) {
+                panic!("{}: {difference}", line.escape_ascii());
+            }
+        }
+    }
+    for number in [0, 2] {
+        let times = asker.tally.get(&("check", number));
+        assert!(times.is_some_and(|times| *times > 50_000), "{number}");
+    }
+}
+
 /// Every byte of the borders at every place of runs of up to four machine words and more, in text and in every kind of line.
 #[test]
 fn borders_in_runs() {

@@ -32,9 +32,8 @@ macro_rules! edited {
             journal,
             numbers,
         } = $buffers;
-        let mut place = 0;
         // SAFETY: the slices and the numbers are lent for this call only, and no buffer overlaps another slice.
-        let number = unsafe {
+        told(|place, byte| unsafe {
             $call(
                 file.as_mut_ptr(),
                 file.len(),
@@ -44,10 +43,10 @@ macro_rules! edited {
                 &mut numbers.used,
                 &mut numbers.standing,
                 $($slice.as_ptr(), $slice.len(),)*
-                &mut place,
+                place,
+                byte,
             )
-        };
-        told(number, place, ())
+        })
     }};
 }
 

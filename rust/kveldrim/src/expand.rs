@@ -17,6 +17,7 @@ extern "C" {
         out: *mut u8,
         out_len: usize,
         place: *mut u64,
+        byte: *mut u64,
         written: *mut u64,
     ) -> u32;
 }
@@ -34,9 +35,9 @@ pub fn expand(
     run: u64,
     out: &mut [u8],
 ) -> Result<usize, Refusal> {
-    let (mut place, mut written) = (0, 0);
+    let mut written = 0;
     // SAFETY: the slices and the numbers are lent for this call only; `out` overlaps none of the others.
-    let number = unsafe {
+    told(|place, byte| unsafe {
         kveldrim_expand(
             file.as_ptr(),
             file.len(),
@@ -49,11 +50,12 @@ pub fn expand(
             run,
             out.as_mut_ptr(),
             out.len(),
-            &mut place,
+            place,
+            byte,
             &mut written,
         )
-    };
-    told(number, place, written as usize)
+    })?;
+    Ok(written as usize)
 }
 
 /// As [`expand`], from items and into one vector for each argument: 1 to 10, 14, 15, 16.

@@ -1,21 +1,32 @@
 //! The C interface, as `include/kveldrim.h` declares it. The safe functions of this crate stand over it.
 //!
-//! Every call: the result is the refusal's number, 0 if accepted; `place` is always written, each other number only if
-//! accepted; no lent byte changes on a refusal. An empty slice may have any pointer.
+//! Every call: the result is the refusal's number, 0 if accepted; `place` and `byte` are always written, each other number
+//! only if accepted; no lent byte changes on a refusal. An empty slice may have any pointer.
 
 pub use crate::expand::kveldrim_expand;
 
-/// A call that asks of a file: the file, its length, place.
-pub type FileCall = unsafe extern "C" fn(*const u8, usize, *mut u64) -> u32;
+/// The number of the C interface that is declared here; [`kveldrim_abi`] tells that of the library.
+pub const ABI: u32 = 1;
+
+/// A call that asks of a file: the file, its length, place, byte.
+pub type FileCall = unsafe extern "C" fn(*const u8, usize, *mut u64, *mut u64) -> u32;
 
 /// A call that reads bytes and writes others: input, its length, output, its length, place, bytes written.
 pub type OutputCall =
     unsafe extern "C" fn(*const u8, usize, *mut u8, usize, *mut u64, *mut u64) -> u32;
 
 extern "C" {
-    pub fn kveldrim_check(file: *const u8, file_len: usize, place: *mut u64) -> u32;
+    pub fn kveldrim_abi() -> u32;
 
-    pub fn kveldrim_complete(file: *const u8, file_len: usize, place: *mut u64) -> u32;
+    pub fn kveldrim_check(file: *const u8, file_len: usize, place: *mut u64, byte: *mut u64)
+        -> u32;
+
+    pub fn kveldrim_complete(
+        file: *const u8,
+        file_len: usize,
+        place: *mut u64,
+        byte: *mut u64,
+    ) -> u32;
 
     pub fn kveldrim_lookup(
         file: *const u8,
@@ -25,6 +36,7 @@ extern "C" {
         key: *const u8,
         key_len: usize,
         place: *mut u64,
+        byte: *mut u64,
         from: *mut u64,
         to: *mut u64,
     ) -> u32;
@@ -39,6 +51,7 @@ extern "C" {
         locale: *const u8,
         locale_len: usize,
         place: *mut u64,
+        byte: *mut u64,
         from: *mut u64,
         to: *mut u64,
     ) -> u32;
@@ -62,7 +75,7 @@ macro_rules! output_calls {
 
 output_calls! { kveldrim_read_text kveldrim_write_text kveldrim_read_list }
 
-/// Declares calls that edit: the two buffers with their numbers, which go in and come out, the arguments, the place.
+/// Declares calls that edit: the two buffers with their numbers, which go in and come out, the arguments, place, byte.
 macro_rules! edit_calls {
     ($($name:ident($($argument:ident: $type:ty),*))*) => {
         extern "C" {
@@ -76,6 +89,7 @@ macro_rules! edit_calls {
                 standing: *mut u64,
                 $($argument: $type,)*
                 place: *mut u64,
+                byte: *mut u64,
             ) -> u32;)*
         }
     };

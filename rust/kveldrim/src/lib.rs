@@ -8,7 +8,7 @@
 //! assert_eq!(kveldrim::check(file), Ok(()));
 //! assert_eq!(kveldrim::choose(file, kveldrim::DESKTOP_ENTRY, b"Name", b"fr_CA.UTF-8"), Ok(&b"Lire"[..]));
 //! let refusal = kveldrim::check(b"[Desktop Entry]\nName\n").unwrap_err();
-//! assert_eq!((refusal.number, refusal.place), (2, 2));
+//! assert_eq!((refusal.number, refusal.place, refusal.byte), (2, 2, 4));
 //! ```
 
 mod edit;
@@ -28,11 +28,16 @@ pub const FILE_BOUND: usize = 32_768;
 /// The group that every file starts with.
 pub const DESKTOP_ENTRY: &[u8] = b"Desktop Entry";
 
-/// The answer, or the refusal if the number is not 0.
-fn told<A>(number: u32, place: u64, answer: A) -> Result<A, Refusal> {
-    match number {
-        0 => Ok(answer),
-        _ => Err(Refusal { number, place }),
+/// What a call tells: its result is the refusal's number, and it writes place and byte where it is shown.
+fn told(call: impl FnOnce(&mut u64, &mut u64) -> u32) -> Result<(), Refusal> {
+    let (mut place, mut byte) = (0, 0);
+    match call(&mut place, &mut byte) {
+        0 => Ok(()),
+        number => Err(Refusal {
+            number,
+            place,
+            byte,
+        }),
     }
 }
 
@@ -47,10 +52,8 @@ pub fn complete(file: &[u8]) -> Result<(), Refusal> {
 }
 
 fn checked(call: ffi::FileCall, file: &[u8]) -> Result<(), Refusal> {
-    let mut place = 0;
-    // SAFETY: the slice and the number are lent for this call only.
-    let number = unsafe { call(file.as_ptr(), file.len(), &mut place) };
-    told(number, place, ())
+    // SAFETY: the slice and the numbers are lent for this call only.
+    told(|place, byte| unsafe { call(file.as_ptr(), file.len(), place, byte) })
 }
 
 /// The raw value of a key, asked with its postfix (`Name` or `Name[de]`): 1 to 8.
@@ -63,8 +66,8 @@ pub fn lookup_ends(file: &[u8], group: &[u8], key: &[u8]) -> Result<Range<usize>
     // SAFETY: the slices and the numbers are lent for this call only.
     ends(
         [file, group, key],
-        |[(file, f), (group, g), (key, k)], [place, from, to]| unsafe {
-            ffi::kveldrim_lookup(file, f, group, g, key, k, place, from, to)
+        |[(file, f), (group, g), (key, k)], [place, byte, from, to]| unsafe {
+            ffi::kveldrim_lookup(file, f, group, g, key, k, place, byte, from, to)
         },
     )
 }
@@ -89,21 +92,21 @@ pub fn choose_ends(
     // SAFETY: the slices and the numbers are lent for this call only.
     ends(
         [file, group, key, locale],
-        |[(file, f), (group, g), (key, k), (locale, l)], [place, from, to]| unsafe {
-            ffi::kveldrim_choose(file, f, group, g, key, k, locale, l, place, from, to)
+        |[(file, f), (group, g), (key, k), (locale, l)], [place, byte, from, to]| unsafe {
+            ffi::kveldrim_choose(file, f, group, g, key, k, locale, l, place, byte, from, to)
         },
     )
 }
 
-/// A call that finds a value. It gets the slices by pointer and length, and writes its place and the two ends.
+/// A call that finds a value. It gets the slices by pointer and length, and writes its place and byte and the two ends.
 fn ends<const N: usize>(
     slices: [&[u8]; N],
-    call: impl Fn([(*const u8, usize); N], [&mut u64; 3]) -> u32,
+    call: impl Fn([(*const u8, usize); N], [&mut u64; 4]) -> u32,
 ) -> Result<Range<usize>, Refusal> {
-    let (mut place, mut from, mut to) = (0, 0, 0);
+    let (mut from, mut to) = (0, 0);
     let lent = slices.map(|slice| (slice.as_ptr(), slice.len()));
-    let number = call(lent, [&mut place, &mut from, &mut to]);
-    told(number, place, from as usize..to as usize)
+    told(|place, byte| call(lent, [place, byte, &mut from, &mut to]))?;
+    Ok(from as usize..to as usize)
 }
 
 /// Reads the escapes of a raw value into the start of `out`, and answers how many bytes it wrote: 9, 11.
@@ -123,19 +126,19 @@ pub fn read_list(raw: &[u8], out: &mut [u8]) -> Result<usize, Refusal> {
 }
 
 fn output(call: ffi::OutputCall, input: &[u8], out: &mut [u8]) -> Result<usize, Refusal> {
-    let (mut place, mut written) = (0, 0);
+    let mut written = 0;
     // SAFETY: the slices and the numbers are lent for this call only; `input` and `out` cannot overlap.
-    let number = unsafe {
+    told(|place, _| unsafe {
         call(
             input.as_ptr(),
             input.len(),
             out.as_mut_ptr(),
             out.len(),
-            &mut place,
+            place,
             &mut written,
         )
-    };
-    told(number, place, written as usize)
+    })?;
+    Ok(written as usize)
 }
 
 /// As [`read_text`], into a vector: 9.

@@ -1,13 +1,15 @@
-//! Refusals: the number and the place that a call tells, and both in plain words.
+//! Refusals: the number, the place and the byte that a call tells, and all of it in plain words.
 
 use std::error::Error;
 use std::fmt;
 
-/// Why a call was refused: a number from 1 on, and a place whose meaning depends on the number (see [`Refusal::at`]).
+/// Why a call was refused: a number from 1 on, a place whose meaning depends on the number, and the byte in a bad line, 0
+/// unless the number is 2 (see [`Refusal::at`]).
 #[derive(Debug, Clone, Copy, PartialEq, Eq, Hash)]
 pub struct Refusal {
     pub number: u32,
     pub place: u64,
+    pub byte: u64,
 }
 
 /// What a refusal's place is.
@@ -17,6 +19,9 @@ pub enum Place {
     None,
     /// A line of the file, counted from 1.
     Line(u64),
+    /// A byte of a bad line, counted from 0: the first after which no ending could make the line good, or the line's length
+    /// where it is only unfinished. The line is counted from 1.
+    Byte { line: u64, byte: u64 },
     /// A byte of the value, counted from 0: of the raw value for 9, of the unescaped Exec for 15 and 16.
     Offset(u64),
 }
@@ -25,7 +30,11 @@ impl Refusal {
     /// What the place means.
     pub fn at(&self) -> Place {
         match self.number {
-            2..=6 | 18 if self.place > 0 => Place::Line(self.place),
+            2 => Place::Byte {
+                line: self.place,
+                byte: self.byte,
+            },
+            3..=6 | 18 if self.place > 0 => Place::Line(self.place),
             9 | 15 | 16 => Place::Offset(self.place),
             _ => Place::None,
         }
@@ -66,6 +75,7 @@ impl fmt::Display for Refusal {
         match self.at() {
             Place::None => write!(f, "{words}"),
             Place::Line(line) => write!(f, "line {line}: {words}"),
+            Place::Byte { line, byte } => write!(f, "line {line}, after {byte} bytes: {words}"),
             Place::Offset(offset) => write!(f, "after {offset} bytes of the value: {words}"),
         }
     }

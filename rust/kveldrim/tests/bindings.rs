@@ -2,12 +2,18 @@
 
 use std::process::Command;
 
-use kveldrim::{Buffers, Document, Edit, Edits, Elements, Numbers, Place, Refusal, DESKTOP_ENTRY};
+use kveldrim::{
+    ffi, Buffers, Document, Edit, Edits, Elements, Numbers, Place, Refusal, DESKTOP_ENTRY,
+};
 
 const T: &[u8] = b"[Desktop Entry]\nType=Application\nName=Lesen\nName[fr]=Lire\nExec=view %F\n";
 
 fn refused<A>(number: u32, place: u64) -> Result<A, Refusal> {
-    Err(Refusal { number, place })
+    Err(Refusal {
+        number,
+        place,
+        byte: 0,
+    })
 }
 
 #[test]
@@ -28,6 +34,34 @@ fn files() {
         kveldrim::check(&[b'\n'; kveldrim::FILE_BOUND + 1]),
         refused(1, 0)
     );
+}
+
+/// Every call that a file is handed to tells the byte of its bad line.
+#[test]
+fn bytes_of_bad_lines() {
+    let bad = b"[Desktop Entry]\nName\t=x\n";
+    let told = Refusal {
+        number: 2,
+        place: 2,
+        byte: 4,
+    };
+    assert_eq!(kveldrim::check(bad), Err(told));
+    assert_eq!(kveldrim::complete(bad), Err(told));
+    assert_eq!(kveldrim::lookup(bad, DESKTOP_ENTRY, b"Name"), Err(told));
+    assert_eq!(
+        kveldrim::choose(bad, DESKTOP_ENTRY, b"Name", b"de"),
+        Err(told)
+    );
+    assert_eq!(
+        kveldrim::expand(bad, b"", b"", b"", 0, &mut [0; 9]),
+        Err(told)
+    );
+    let mut document = Document::new(bad);
+    assert_eq!(document.set(DESKTOP_ENTRY, b"Name", b"y"), Err(told));
+    assert_eq!(document.remove(DESKTOP_ENTRY, b"Name"), Err(told));
+    assert_eq!(document.undo(), Err(told));
+    assert_eq!(document.redo(), Err(told));
+    assert_eq!(document.file(), bad);
 }
 
 #[test]
@@ -161,11 +195,21 @@ fn edits_of_a_document() {
 
 #[test]
 fn words_of_refusals() {
-    let of = |number, place| Refusal { number, place };
+    let of = |number, place| Refusal {
+        number,
+        place,
+        byte: 0,
+    };
+    let bad = Refusal {
+        number: 2,
+        place: 7,
+        byte: 4,
+    };
     assert_eq!(of(1, 0).to_string(), "the file is over 32,768 bytes");
-    assert!(of(2, 7)
+    assert!(bad
         .to_string()
-        .starts_with("line 7: this line is not blank"));
+        .starts_with("line 7, after 4 bytes: this line is not blank"));
+    assert_eq!(bad.at(), Place::Byte { line: 7, byte: 4 });
     assert!(of(9, 0)
         .to_string()
         .starts_with("after 0 bytes of the value: unknown"));
@@ -175,6 +219,18 @@ fn words_of_refusals() {
     for number in 1..=18 {
         assert_ne!(of(number, 0).words(), unknown, "{number}");
     }
+}
+
+/// The library, the declarations here and the header are of one interface.
+#[test]
+fn one_abi() {
+    let header = include_str!("../../../include/kveldrim.h");
+    let line = header
+        .lines()
+        .find_map(|line| line.strip_prefix("#define KVELDRIM_ABI "));
+    assert_eq!(line, Some(ffi::ABI.to_string().as_str()));
+    // SAFETY: the call is handed nothing.
+    assert_eq!(unsafe { ffi::kveldrim_abi() }, ffi::ABI);
 }
 
 /// The header is good C and C++, where there is a compiler to ask.

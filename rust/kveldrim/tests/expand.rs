@@ -11,7 +11,11 @@ fn with_exec(exec: &str) -> Vec<u8> {
 }
 
 fn refused<A>(number: u32, place: u64) -> Result<A, Refusal> {
-    Err(Refusal { number, place })
+    Err(Refusal {
+        number,
+        place,
+        byte: 0,
+    })
 }
 
 #[test]

@@ -1,4 +1,4 @@
--- `tell_checked` meets its contract: a refusal is told by its number and place. Assumes nothing.
+-- `tell_checked` meets its contract: a refusal is told by its number, place and byte. Assumes nothing.
 use borrow.Author.Needs.{needs}
 use Rattle.kveldrim.proofs.tell_checked.Statement.{statement}
 use Rattle.kveldrim.proofs.tell_checked.Tie as tie
@@ -11,4 +11,4 @@ tell-checked-spec =
     (λ c. search needs)
     (λ c κs. search needs)
     (λ c. search needs)
-    (λ c. rw (c .before .before .before .c .given .1) (record { code-is = c .refuse .ensures .0; place-is = c .refuse .ensures .1 })))
+    (λ c. rw (c .before .before .before .before .c .given .1) (record { code-is = c .refuse .ensures .0; place-is = c .refuse .ensures .1; byte-is = c .refuse .ensures .2 })))

@@ -1,4 +1,4 @@
--- `tell_written` meets its contract: a refusal is told by its number and place, and writes no number. Assumes nothing.
+-- `tell_written` meets its contract: a refusal is told by its number, place and byte, and writes no number. Assumes nothing.
 use mathlib.Core.Path.{refl}
 use borrow.Author.Needs.{needs}
 use Rattle.kveldrim.proofs.tell_written.Statement.{statement}
@@ -12,4 +12,4 @@ tell-written-spec =
     (λ c. search needs)
     (λ c κs. search needs)
     (λ c. search needs)
-    (λ c. rw (c .before .before .before .w2 .given .1) (record { returned = record { code-is = c .refuse .ensures .0; place-is = c .refuse .ensures .1 }; written-is = refl })))
+    (λ c. rw (c .before .before .before .before .w2 .given .1) (record { returned = record { code-is = c .refuse .ensures .0; place-is = c .refuse .ensures .1; byte-is = c .refuse .ensures .2 }; written-is = refl })))

@@ -49,6 +49,20 @@ impl Folder {
         }
     }
 
+    /// Runs the command in the folder with a terminal, made by `script` of Debian's package bsdutils. Answers the status and
+    /// all that the terminal was sent. The words are simple ones.
+    pub fn run_on_terminal(&self, words: &[&str]) -> (i32, String) {
+        let line = [&[env!("CARGO_BIN_EXE_kveldrim")], words]
+            .concat()
+            .join(" ");
+        let mut command = Command::new("script");
+        command.args(["--quiet", "--return", "--command", &line, "/dev/null"]);
+        let output = command.current_dir(&self.0).output();
+        let output = output.expect("the command `script`, of Debian's package bsdutils");
+        let told = String::from_utf8(output.stdout).unwrap();
+        (output.status.code().unwrap(), told.replace('\r', ""))
+    }
+
     /// The bytes of a file in the folder.
     pub fn read(&self, name: &str) -> Vec<u8> {
         fs::read(self.0.join(name)).unwrap()

@@ -1,6 +1,7 @@
 //! The readings of the rules (docs/DECISIONS.md), parts 1 to 7, and the place of a bad byte: each test is named by its entry.
 
 use crate::common::*;
+use reference::lines::{read_line, Line};
 use reference::{
     check, choose, complete, expand, lookup, redo, remove, runs, set, undo, Book, Refusal, State,
 };
@@ -943,6 +944,53 @@ fn a6_1_byte_in_the_line() {
         );
     }
     assert_eq!(check(&with_header(b"#\xFF\0\n")), Ok(()));
+}
+
+/// Endings that make a good line of every front of a good line of the bytes below: what is unfinished of a character, of a
+/// locale, of a header and of an entry.
+const ENDINGS: [&[u8]; 12] = [
+    b"",
+    b"a",
+    b"]",
+    b"a]",
+    b"=",
+    b"a=",
+    b"]=",
+    b"a]=",
+    b"\x80",
+    b"\x80\x80",
+    b"\x80\x80\x80",
+    b"\xA0\x80",
+];
+
+/// 02's sentence itself, by trying endings: "the first after which no ending could make the line good, or the line's length".
+fn first_hopeless(line: &[u8]) -> usize {
+    let hopeful = |front: &[u8]| {
+        let mended =
+            |ending: &&[u8]| !matches!(read_line(&[front, ending].concat()), Line::Bad { .. });
+        ENDINGS.iter().any(mended)
+    };
+    (0..line.len())
+        .find(|byte| !hopeful(&line[..=*byte]))
+        .unwrap_or(line.len())
+}
+
+/// Every line of up to five of the bytes that decide most.
+#[test]
+fn a6_1_the_first_byte_after_which_no_ending_helps() {
+    let bytes = b"[]a=_@ \t#\x80\xC3\xE0\xF4";
+    let mut bad = 0;
+    for length in 0..=5 {
+        for number in 0..bytes.len().pow(length) {
+            let at = |power| bytes[number / bytes.len().pow(power) % bytes.len()];
+            let line: Vec<u8> = (0..length).map(at).collect();
+            if let Line::Bad { byte } = read_line(&line) {
+                assert_eq!(byte, first_hopeless(&line), "{}", line.escape_ascii());
+                bad += 1;
+            }
+        }
+    }
+    assert!(bad > 100_000, "{bad}");
 }
 
 // Part 9

@@ -12,7 +12,11 @@ type Output = fn(&[u8], &mut [u8]) -> Result<usize, Refusal>;
 fn told<A>(answer: Result<A, Refusal>, words: impl Fn(A) -> String) -> String {
     match answer {
         Ok(answer) => words(answer),
-        Err(refusal) => format!("refused {} at {}", refusal.number, refusal.place),
+        Err(Refusal {
+            number,
+            place,
+            byte,
+        }) => format!("refused {number} at {place} byte {byte}"),
     }
 }
 
@@ -173,6 +177,7 @@ fn commands() -> Vec<String> {
         german(b"Exec=view %F\n", &two, 1, 40),
         german(b"Exec=view %F\n", &records(2, &[""]), 0, 10),
         german(b"Name=X\n", b"", 0, 10),
+        german(b"Exec\n", b"", 0, 10),
         german(b"Exec=view %d%f %k\n", b"", 0, 26),
         german(b"Name=N\nIcon=i\nExec=v %i %i \"\" %k%c%d%u\n", b"", 0, 68),
         german(
@@ -230,11 +235,20 @@ fn files() -> Vec<String> {
         checks(&with_header(b"Name=a\nName=b\n")),
         checks(&with_header(b"Name[fr]=a\nName[de]=b\n")),
         checks(&with_header(b"Name[fr]=a\n!\n")),
+        checks(b"[]\n"),
+        checks(b"[Desktop Entry]x\n"),
+        checks(&with_header(b" x\n")),
+        checks(&with_header(b"Name\t=x\n")),
+        checks(&with_header(b"Name[]=x\n")),
+        checks(&with_header(b"Name[de")),
+        checks(&with_header(b"Name=\xE0\x80\n")),
+        checks(&with_header(b"Name=\xE0")),
         completes(T),
         completes(&with_header(
             b"Type=Application\nName=N\nDBusActivatable=true\n",
         )),
         completes(b""),
+        completes(&with_header(b"Type\n")),
         completes(&with_header(b"Name=N\n")),
         completes(&with_header(b"Name=N\nType=Tool\n")),
         completes(&with_header(b"Type=Directory\n")),
@@ -253,6 +267,7 @@ fn values() -> Vec<String> {
         looks_up(&with_header(b"Name=a \n"), entry, b"Name"),
         looks_up(T, entry, b"Name[fr]"),
         looks_up(b"", b"[", b"Name"),
+        looks_up(&with_header(b"Name\n"), b"[", b"Name"),
         looks_up(T, b"[", b"Name"),
         looks_up(T, entry, b"Name["),
         looks_up(T, b"Other", b"Name"),
@@ -263,6 +278,7 @@ fn values() -> Vec<String> {
         chooses(T, b"Name", b"C"),
         chooses(T, b"Name", b""),
         chooses(b"", b"Name", b"_"),
+        chooses(&with_header(b"Name[\n"), b"Name", b"_"),
         chooses(T, b"Name[fr]", b"fr"),
         chooses(T, b"Name", b"_"),
         chooses(T, b"Icon", b"fr"),

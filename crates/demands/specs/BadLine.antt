@@ -1,0 +1,56 @@
+-- Refusal 2 names the bad line and the byte in it (02, A6), of the public check. Assumes nothing.
+use Prim.Native.Nat.{ℕ, _+_, _-_, _≤_, _<_}
+use mathlib.Core.Path.{_≡_}
+use mathlib.Core.Bool.{true, false}
+use mathlib.Core.List.{List, [], _++_}
+use lib.ListN.{length, take, getD}
+use Rattle.base.specs.Lists.{any}
+use Rattle.fault.specs.declared.Fault.{Fault}
+use Rattle.fault.specs.declared.Fault.the-variants.{BadLine}
+use Rattle.fault.specs.Answer.{refused}
+use Rattle.line.specs.Line.{readLine, isBad}
+use Rattle.line.specs.Place.{Mended}
+use Rattle.rows.specs.Rows.{rows, lineOf}
+use Rattle.wellformed.specs.Check.{check}
+use Rattle.entry.specs.Complete.{complete}
+use Rattle.entry.specs.Lookup.{lookup}
+use Rattle.entry.specs.Choose.{choose}
+use Rattle.exec.specs.Expand.{expand}
+use Rattle.edit.specs.Calls.{State, content, lengthsFit}
+use Rattle.demands.specs.Book.{Call}
+use Rattle.demands.specs.Demand3.{stateCall}
+
+-- the line of a number, counted from 1
+abbrev pub lineAt : List ℕ → ℕ → List ℕ
+lineAt file n = lineOf (getD (rows file) (n - 1) [])
+
+-- a file's earliest bad line, and the first byte of it after which no ending could make it good; or its length where it is only unfinished
+pub record BadAt (file : List ℕ) (line byte : ℕ) : Type 0 where
+  -- the file has a line of this number
+  pub numbered : (0 < line) × (line ≤ length (rows file))
+  -- it is bad
+  pub bad : isBad (readLine (lineAt file line)) ≡ true
+  -- no line before it is
+  pub earliest : any (λ r. isBad (readLine (lineOf r))) (take (line - 1) (rows file)) ≡ false
+  -- the byte stands in it, or is its length
+  pub within : byte ≤ length (lineAt file line)
+  -- whatever follows the byte, the line is bad
+  pub hopeless : byte < length (lineAt file line) → (ending : List ℕ) → isBad (readLine (take (byte + 1) (lineAt file line) ++ ending)) ≡ true
+  -- some ending makes a good line of the bytes before it
+  pub hopeful : Mended (take byte (lineAt file line))
+
+-- what the check tells of a bad line is so
+unfoldable pub BadLineTold : Type 0
+BadLineTold = (file : List ℕ) (line byte : ℕ) → check file ≡ refused (BadLine line byte) → BadAt file line byte
+
+-- a refusal that every call on a file gives; one that edits gives it where the lengths fit
+pub record PassedOn (file : List ℕ) (f : Fault) : Type 0 where
+  pub complete-refuses : complete file ≡ refused f
+  pub lookup-refuses : (group key : List ℕ) → lookup file group key ≡ refused f
+  pub choose-refuses : (group key locale : List ℕ) → choose file group key locale ≡ refused f
+  pub expand-refuses : (locale location list : List ℕ) (run : ℕ) → expand file locale location list run ≡ refused f
+  pub edits-refuse : (s : State) (c : Call) → lengthsFit s ≡ true → content s ≡ file → stateCall s c ≡ refused f
+
+-- the check's refusal is passed on, its line and byte with it
+unfoldable pub CheckPassedOn : Type 0
+CheckPassedOn = (file : List ℕ) (f : Fault) → check file ≡ refused f → PassedOn file f
