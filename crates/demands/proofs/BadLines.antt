@@ -1,4 +1,4 @@
--- What the check tells of a bad line is so, and every call on the file tells it. Assumes nothing.
+-- What the check tells of a bad line is so. Assumes nothing.
 use Prim.Native.Nat.{ℕ, suc, _+_, _-_}
 use native.Mathlib.Omega.{arith}
 use mathlib.Core.Path.{_≡_, refl, ap, _∙_}
@@ -23,15 +23,8 @@ use Rattle.rows.specs.Rows.{Row, rows, lineOf, groupAfter, rowsFrom, readRows}
 use Rattle.rows.specs.Title.{desktopEntry, Title, Group, title, sameTitle, seeing}
 use Rattle.rows.proofs.Rows.{rowOf}
 use Rattle.rows.proofs.Sight.{badLine}
-use Rattle.wellformed.specs.Check.{fileMost, titleFault, rowFault, earliest, isGroup, noPlain, titledAs, plainAll, checkAs, check}
-use Rattle.entry.specs.Complete.{complete}
-use Rattle.entry.specs.Lookup.{lookup}
-use Rattle.entry.specs.Choose.{choose}
-use Rattle.exec.specs.Expand.{askedItems, expand}
-use Rattle.edit.specs.Calls.{State, content, lengthsFit, opened, request, undo, redo}
-use Rattle.demands.specs.Book.{Call, Do, Undo, Redo}
-use Rattle.demands.specs.Demand3.{stateCall}
-use Rattle.demands.specs.BadLine.{lineAt, BadAt, BadLineTold, CheckPassedOn}
+use Rattle.wellformed.specs.Check.{fileMost, titleFault, rowFault, earliest, isGroup, noPlain, titledAs, plainAll, checkAs}
+use Rattle.demands.specs.BadLine.{lineAt, BadAt, BadLineTold}
 
 -- ---- 2 comes from the earliest row with a fault
 
@@ -119,8 +112,8 @@ module _ (leading : List ℕ) (line byte : ℕ) where
           record { xs = []; row = r; ys = rs; is = refl; number = omega arith; reads = i ∙ ap Bad b; before = refl }
 
 -- what that row is in its file
-told : (file : List ℕ) (line byte : ℕ) → Stands 1 (rows file) line byte → BadAt file line byte
-told file line byte w =
+bad-at : (file : List ℕ) (line byte : ℕ) → Stands 1 (rows file) line byte → BadAt file line byte
+bad-at file line byte w =
     let m : line - 1 ≡ length (w .xs) = omega (arith, w .number) in
     let l = length-append (w .xs) (w .row ∷ w .ys) in
     let r : getD (rows file) (line - 1) [] ≡ w .row = rw (m, w .is) (getD-append-seam (w .xs) (w .row) (w .ys) []) in
@@ -137,23 +130,4 @@ told file line byte w =
 
 pub bad-line-told : BadLineTold
 unfolding BadLineTold readRows
-bad-line-told file line byte e = told file line byte (stands desktopEntry line byte (rows file) 1 0 [] [] (earliest-told desktopEntry file line byte e))
-
--- ---- every call asks the check first
-
-edit-refuses : (s : State) (f : Fault) (c : Call) → lengthsFit s ≡ true → check (content s) ≡ refused f → stateCall s c ≡ refused f
-unfolding request undo redo opened
-edit-refuses s f (Do q) l e = rw (l, e)
-edit-refuses s f Undo l e = rw (l, e)
-edit-refuses s f Redo l e = rw (l, e)
-
-pub check-passed-on : CheckPassedOn
-unfolding CheckPassedOn complete lookup choose askedItems expand
-check-passed-on file f e =
-    record {
-      complete-refuses = rw e;
-      lookup-refuses = λ group key. rw e;
-      choose-refuses = λ group key locale. rw e;
-      expand-refuses = λ locale location list run. rw e;
-      edits-refuse = λ s c l i. edit-refuses s f c l (ap check i ∙ e);
-    }
+bad-line-told file line byte e = bad-at file line byte (stands desktopEntry line byte (rows file) 1 0 [] [] (earliest-told desktopEntry file line byte e))

@@ -11,3 +11,4 @@ pub mod Lengths
 pub mod CommandLaws
 pub mod TextLaws
 pub mod BadLines
+pub mod PassedOn

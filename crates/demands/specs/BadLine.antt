@@ -1,4 +1,4 @@
--- Refusal 2 names the bad line and the byte in it (02, A6), of the public check. Assumes nothing.
+-- Refusal 2 names the bad line and the byte in it, in every call that gives it (02, A6). Assumes nothing.
 use Prim.Native.Nat.{ℕ, _+_, _-_, _≤_, _<_}
 use mathlib.Core.Path.{_≡_}
 use mathlib.Core.Bool.{true, false}
@@ -7,7 +7,7 @@ use lib.ListN.{length, take, getD}
 use Rattle.base.specs.Lists.{any}
 use Rattle.fault.specs.declared.Fault.{Fault}
 use Rattle.fault.specs.declared.Fault.the-variants.{BadLine}
-use Rattle.fault.specs.Answer.{refused}
+use Rattle.fault.specs.Answer.{Answer, refused}
 use Rattle.line.specs.Line.{readLine, isBad}
 use Rattle.line.specs.Place.{Mended}
 use Rattle.rows.specs.Rows.{rows, lineOf}
@@ -43,7 +43,23 @@ pub record BadAt (file : List ℕ) (line byte : ℕ) : Type 0 where
 unfoldable pub BadLineTold : Type 0
 BadLineTold = (file : List ℕ) (line byte : ℕ) → check file ≡ refused (BadLine line byte) → BadAt file line byte
 
--- a refusal that every call on a file gives; one that edits gives it where the lengths fit
+-- a bad line that an answer tells is the file's
+abbrev pub TellsOf : {A : Type 0} → List ℕ → Answer A → Type 0
+TellsOf file a = (line byte : ℕ) → a ≡ refused (BadLine line byte) → BadAt file line byte
+
+-- what every other call on a file tells of a bad line
+pub record CallsTell (file : List ℕ) : Type 0 where
+  pub complete-tells : TellsOf file (complete file)
+  pub lookup-tells : (group key : List ℕ) → TellsOf file (lookup file group key)
+  pub choose-tells : (group key locale : List ℕ) → TellsOf file (choose file group key locale)
+  pub expand-tells : (locale location list : List ℕ) (run : ℕ) → TellsOf file (expand file locale location list run)
+  pub edits-tell : (s : State) (c : Call) → content s ≡ file → TellsOf file (stateCall s c)
+
+-- is so too
+unfoldable pub BadLineToldByCalls : Type 0
+BadLineToldByCalls = (file : List ℕ) → CallsTell file
+
+-- a refusal that every other call on a file gives; one that edits gives it where the lengths fit
 pub record PassedOn (file : List ℕ) (f : Fault) : Type 0 where
   pub complete-refuses : complete file ≡ refused f
   pub lookup-refuses : (group key : List ℕ) → lookup file group key ≡ refused f
@@ -51,6 +67,6 @@ pub record PassedOn (file : List ℕ) (f : Fault) : Type 0 where
   pub expand-refuses : (locale location list : List ℕ) (run : ℕ) → expand file locale location list run ≡ refused f
   pub edits-refuse : (s : State) (c : Call) → lengthsFit s ≡ true → content s ≡ file → stateCall s c ≡ refused f
 
--- the check's refusal is passed on, its line and byte with it
+-- the check's refusal is passed on by all of them
 unfoldable pub CheckPassedOn : Type 0
 CheckPassedOn = (file : List ℕ) (f : Fault) → check file ≡ refused f → PassedOn file f

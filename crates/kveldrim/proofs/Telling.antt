@@ -29,7 +29,7 @@ same-ends e t = rw e at t
 
 -- ---- a call that edits
 
--- an answer's numbers tell the same code and place
+-- an answer's numbers tell the same code, place and byte
 code-told : (a : Answer State) → codeOf (told a) ≡ codeOf a
 code-told (given s) = refl
 code-told (refused f) = refl

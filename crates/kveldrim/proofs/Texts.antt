@@ -1,4 +1,4 @@
--- The calls that read and write text never refuse a line: the byte of their refusals is 0. Assumes nothing.
+-- The calls that read and write text are never refused with 2, so the byte of their refusals is 0. Assumes nothing.
 use mathlib.Core.Path.{_≡_, refl}
 use Prim.Native.Nat.{ℕ, _+_}
 use Prim.Native.Char.{code}
@@ -10,7 +10,8 @@ use lib.Dec.{eqb, leb}
 use Rattle.base.specs.Choice.{pick, maybe}
 use Rattle.base.specs.Lists.{all}
 use Rattle.fault.specs.declared.Fault.the-variants.{BadEscape, UnfitText, NoRoom}
-use Rattle.fault.specs.Answer.{Answer, given, refused, _>>=_, need, then}
+use Rattle.fault.specs.Answer.{Answer, given, refused, then}
+use Rattle.fault.proofs.Refusals.{IfRefused, if-then, if-bind, if-need, Not2, byte-zero}
 use Rattle.record.specs.Record.{listOf}
 use Rattle.text.specs.Escape.{escape, textFrom, readText, rawText, fitText, writeText}
 use Rattle.text.specs.Element.{rawElements, eachRead, elementsOf, fitsRecord, readElements}
@@ -19,70 +20,58 @@ use Rattle.text.specs.declared.Escapes.{Escapes}
 use Rattle.text.specs.declared.Escapes.the-variants as escapes
 use Rattle.kveldrim.specs.Abi.{byteIn}
 
--- ---- what is asked in turn
+-- ---- their refusals
 
-then-zero : {A B : Type 0} (h : A → B) (a : Answer A) → byteIn a ≡ 0 → byteIn (then h a) ≡ 0
-then-zero h (given x) e = refl
-then-zero h (refused f) e = e
+from-not2 : (k : Escapes) (s : List ℕ) (taken : Bool) (at : ℕ) → IfRefused Not2 (textFrom k s taken at)
+unfolding textFrom
+from-not2 k [] false at = tt
+from-not2 k [] true at = refl
+from-not2 k (b ∷ bs) false at = go (eqb b (code "\\")) (from-not2 k bs true at) (from-not2 k bs false (at + 1))
+  where
+    go : (t : Bool) → IfRefused Not2 (textFrom k bs true at) → IfRefused Not2 (textFrom k bs false (at + 1))
+        → IfRefused Not2 (pick t (textFrom k bs true at) (then (λ s. b ∷ s) (textFrom k bs false (at + 1))))
+    go true pair single = pair
+    go false pair single = if-then Not2 (λ s. b ∷ s) (textFrom k bs false (at + 1)) single
+from-not2 k (b ∷ bs) true at = go (escape k b) (from-not2 k bs false (at + 2))
+  where
+    go : (o : Option ℕ) → IfRefused Not2 (textFrom k bs false (at + 2)) → IfRefused Not2 (maybe o (refused (BadEscape at)) (λ x. then (λ s. x ∷ s) (textFrom k bs false (at + 2))))
+    go none rest = refl
+    go (some x) rest = if-then Not2 (λ s. x ∷ s) (textFrom k bs false (at + 2)) rest
 
-bind-zero : {A B : Type 0} (a : Answer A) (k : A → Answer B) → byteIn a ≡ 0 → ((x : A) → byteIn (k x) ≡ 0) → byteIn (a >>= k) ≡ 0
-bind-zero (given x) k e h = h x
-bind-zero (refused f) k e h = e
+pub read-not2 : (raw : List ℕ) → IfRefused Not2 (readText raw)
+unfolding readText
+read-not2 raw = from-not2 escapes.Text raw false 0
 
-told-zero : (a : Answer (List ℕ)) (out : List ℕ) → byteIn a ≡ 0 → byteIn (told a out) ≡ 0
-told-zero (given s) out e = go (leb (length s) (length out))
+write-not2 : (text : List ℕ) → IfRefused Not2 (writeText text)
+unfolding writeText
+write-not2 text = if-need Not2 (fitText text) UnfitText (λ _. given (rawText text)) refl (λ _. tt)
+
+each-not2 : (es : List (List ℕ)) (at : ℕ) → IfRefused Not2 (eachRead es at)
+unfolding eachRead
+each-not2 [] at = tt
+each-not2 (e ∷ es) at =
+    if-bind Not2 (textFrom escapes.List e false at) _ (from-not2 escapes.List e false at)
+    (λ t. if-bind Not2 (eachRead es (at + length e + 1)) _ (each-not2 es (at + length e + 1)) (λ ts. tt))
+
+list-not2 : (raw : List ℕ) → IfRefused Not2 (readElements raw)
+unfolding readElements elementsOf
+list-not2 raw = if-bind Not2 (elementsOf raw) _ (each-not2 (rawElements raw false) 0) (λ es. if-need Not2 (all fitsRecord es) NoRoom (λ _. given (listOf 2 es)) refl (λ _. tt))
+
+-- ---- their bytes
+
+told-zero : (a : Answer (List ℕ)) (out : List ℕ) → IfRefused Not2 a → byteIn (told a out) ≡ 0
+told-zero (given s) out n = go (leb (length s) (length out))
   where
     go : (t : Bool) → byteIn (pick t (given (length s)) (refused NoRoom)) ≡ 0
     go true = refl
     go false = refl
-told-zero (refused f) out e = e
-
--- ---- text
-
-from-zero : (k : Escapes) (s : List ℕ) (taken : Bool) (at : ℕ) → byteIn (textFrom k s taken at) ≡ 0
-unfolding textFrom
-from-zero k [] false at = refl
-from-zero k [] true at = refl
-from-zero k (b ∷ bs) false at = go (eqb b (code "\\")) (from-zero k bs true at) (from-zero k bs false (at + 1))
-  where
-    go : (t : Bool) → byteIn (textFrom k bs true at) ≡ 0 → byteIn (textFrom k bs false (at + 1)) ≡ 0
-        → byteIn (pick t (textFrom k bs true at) (then (λ s. b ∷ s) (textFrom k bs false (at + 1)))) ≡ 0
-    go true pair single = pair
-    go false pair single = then-zero (λ s. b ∷ s) (textFrom k bs false (at + 1)) single
-from-zero k (b ∷ bs) true at = go (escape k b) (from-zero k bs false (at + 2))
-  where
-    go : (o : Option ℕ) → byteIn (textFrom k bs false (at + 2)) ≡ 0
-        → byteIn (maybe o (refused (BadEscape at)) (λ x. then (λ s. x ∷ s) (textFrom k bs false (at + 2)))) ≡ 0
-    go none rest = refl
-    go (some x) rest = then-zero (λ s. x ∷ s) (textFrom k bs false (at + 2)) rest
+told-zero (refused f) out n = byte-zero f n
 
 pub read-zero : (raw out : List ℕ) → byteIn (told (readText raw) out) ≡ 0
-unfolding readText
-read-zero raw out = told-zero (readText raw) out (from-zero escapes.Text raw false 0)
+read-zero raw out = told-zero (readText raw) out (read-not2 raw)
 
 pub write-zero : (text out : List ℕ) → byteIn (told (writeText text) out) ≡ 0
-unfolding writeText
-write-zero text out = told-zero (writeText text) out (go (fitText text))
-  where
-    go : (t : Bool) → byteIn (need t UnfitText >>= λ _. given (rawText text)) ≡ 0
-    go true = refl
-    go false = refl
-
--- ---- lists
-
-each-zero : (es : List (List ℕ)) (at : ℕ) → byteIn (eachRead es at) ≡ 0
-unfolding eachRead
-each-zero [] at = refl
-each-zero (e ∷ es) at =
-    bind-zero (textFrom escapes.List e false at) (λ t. (eachRead es (at + length e + 1) >>= λ ts. given (t ∷ ts))) (from-zero escapes.List e false at)
-    (λ t. bind-zero (eachRead es (at + length e + 1)) (λ ts. given (t ∷ ts)) (each-zero es (at + length e + 1)) (λ ts. refl))
+write-zero text out = told-zero (writeText text) out (write-not2 text)
 
 pub list-zero : (raw out : List ℕ) → byteIn (told (readElements raw) out) ≡ 0
-unfolding readElements elementsOf
-list-zero raw out =
-    told-zero (readElements raw) out
-    (bind-zero (elementsOf raw) (λ es. (need (all fitsRecord es) NoRoom >>= λ _. given (listOf 2 es))) (each-zero (rawElements raw false) 0) (λ es. go es (all fitsRecord es)))
-  where
-    go : (es : List (List ℕ)) (t : Bool) → byteIn (need t NoRoom >>= λ _. given (listOf 2 es)) ≡ 0
-    go es true = refl
-    go es false = refl
+list-zero raw out = told-zero (readElements raw) out (list-not2 raw)

@@ -59,10 +59,7 @@ fn each_theorem_of_the_readme_is_in_its_file() {
 #[test]
 fn each_definition_of_the_architecture_is_in_its_file() {
     let mut seen = 0;
-    for row in rows(&section(
-        "docs/ARCHITECTURE.md",
-        "Where each rule of 01 lives",
-    )) {
+    for row in rows(&section("docs/ARCHITECTURE.md", "Where each rule lives")) {
         let mut directory = "";
         for place in row[1].split(';').filter(|place| !place.trim().is_empty()) {
             let (file, names) = place.split_once(':').unwrap_or_else(|| panic!("{place}"));
