@@ -13,7 +13,9 @@ use Rattle.base.specs.Lists.{any, first}
 use Rattle.base.proofs.Tests.{no}
 use Rattle.fault.specs.declared.Fault.{Fault}
 use Rattle.fault.specs.declared.Fault.the-variants.{TooLong, BadLine, FirstGroup, RepeatedGroup, RepeatedKey, NoPlainKey}
-use Rattle.fault.specs.Answer.{Answer, given, refused, _>>=_, need, unless}
+use Rattle.fault.specs.Answer.{refused, unless}
+use Rattle.fault.proofs.Answers.{unless-refused}
+use Rattle.fault.proofs.Refusals.{IfRefused, if-test, if-none, Not2, came-later, came-first}
 use Rattle.line.specs.declared.Line.{Line}
 use Rattle.line.specs.declared.Line.the-variants.{Blank, Comment, Header, Entry, Bad}
 use Rattle.line.specs.Line.{readLine, isBad}
@@ -28,25 +30,18 @@ use Rattle.demands.specs.BadLine.{lineAt, BadAt, BadLineTold}
 
 -- ---- 2 comes from the earliest row with a fault
 
--- 6 by the row that lacks its plain key
-abbrev plainBy : Option Row → Answer (Unit {0})
-plainBy o = maybe o (given tt) (λ r. refused (NoPlainKey (r .line)))
+plain-not2 : (rs : List Row) → IfRefused Not2 (plainAll rs)
+unfolding plainAll
+plain-not2 rs = if-none Not2 (first (noPlain rs) rs) (λ r. NoPlainKey (r .line)) (λ r. refl)
 
 earliest-told : (leading file : List ℕ) (line byte : ℕ) → checkAs leading file ≡ refused (BadLine line byte) → earliest leading [] (readRows file) ≡ some (BadLine line byte)
-unfolding checkAs titledAs plainAll
-earliest-told leading file line byte e = go (leb (length file) fileMost) (earliest leading [] rs) (any (λ r. isGroup (title r)) rs) (first (noPlain rs) rs) e
-  where
-    rs : List Row
-    rs = readRows file
-
-    go : (t : Bool) (o : Option Fault) (u : Bool) (p : Option Row)
-        → (need t TooLong >>= λ _. ((unless o >>= λ _. need u (FirstGroup 0)) >>= λ _. plainBy p)) ≡ refused (BadLine line byte)
-        → o ≡ some (BadLine line byte)
-    go false o u p e = no (cc)
-    go true (some f) u p e = cc
-    go true none false p e = no (cc)
-    go true none true none e = no (cc)
-    go true none true (some r) e = no (cc)
+unfolding checkAs titledAs
+earliest-told leading file line byte e =
+    let rs : List Row = readRows file in
+    let titled : titledAs leading rs ≡ refused (BadLine line byte) =
+    came-first (titledAs leading rs) _ line byte (λ _. plain-not2 rs) (came-later (leb (length file) fileMost) TooLong _ line byte refl e) in
+    unless-refused (earliest leading [] rs) (BadLine line byte)
+    (came-first (unless (earliest leading [] rs)) _ line byte (λ _. if-test Not2 (any (λ r. isGroup (title r)) rs) (FirstGroup 0) refl) titled)
 
 -- ---- that row
 

@@ -9,11 +9,10 @@ use lib.ListN.{length, take}
 use lib.Dec.{eqb, ltb}
 use Rattle.base.specs.Choice.{pick, maybe}
 use Rattle.base.specs.Lists.{ascii, any, all, first}
-use Rattle.base.proofs.Tests.{no}
 use Rattle.fault.specs.declared.Fault.{Fault}
 use Rattle.fault.specs.declared.Fault.the-variants.{BadLine, BadArgument, Missing, UnfitText, NoRoom, NothingLeft, JournalFull, Damaged, BadExec, BadCode, Incomplete}
-use Rattle.fault.specs.Answer.{given, refused, _>>=_, need, some-or, unless}
-use Rattle.fault.proofs.Refusals.{IfRefused, if-bind, if-need, if-or, if-some, Not2, came-first}
+use Rattle.fault.specs.Answer.{given, refused, unless}
+use Rattle.fault.proofs.Refusals.{IfRefused, if-bind, if-need, if-or, if-some, if-none, Not2, came-later, came-first}
 use Rattle.text.specs.Escape.{readText}
 use Rattle.line.specs.Name.{byteAt}
 use Rattle.line.specs.Form.{groupForm, keyForm, plainForm, localeForm}
@@ -68,11 +67,7 @@ check-passed-on file f e =
 
 booleans-not2 : (rs : List Row) → IfRefused Not2 (booleans rs)
 unfolding booleans
-booleans-not2 rs = go (first badBoolean rs)
-  where
-    go : (o : Option Row) → IfRefused {A = Unit {0}} Not2 (maybe o (given tt) (λ r. refused (Incomplete (r .line))))
-    go none = tt
-    go (some r) = refl
+booleans-not2 rs = if-none Not2 (first badBoolean rs) (λ r. Incomplete (r .line)) (λ r. refl)
 
 complete-not2 : (rs : List Row) → IfRefused Not2 (completeRows rs)
 unfolding completeRows
@@ -95,12 +90,9 @@ replayed-not2 s e standing =
 
 opened-tells : (s : State) (line byte : ℕ) → opened s ≡ refused (BadLine line byte) → check (content s) ≡ refused (BadLine line byte)
 unfolding opened
-opened-tells s line byte e = go (lengthsFit s) e
-  where
-    go : (t : Bool) → (need t Damaged >>= λ _. (check (content s) >>= λ _. some-or (readJournal (take (s .used) (s .journal)) (s .standing)) Damaged)) ≡ refused (BadLine line byte)
-        → check (content s) ≡ refused (BadLine line byte)
-    go true e = came-first (check (content s)) _ line byte (λ _. if-or Not2 (readJournal (take (s .used) (s .journal)) (s .standing)) Damaged refl) e
-    go false e = no (cc)
+opened-tells s line byte e =
+    came-first (check (content s)) _ line byte (λ _. if-or Not2 (readJournal (take (s .used) (s .journal)) (s .standing)) Damaged refl)
+    (came-later (lengthsFit s) Damaged _ line byte refl e)
 
 edit-tells : (s : State) (c : Call) (line byte : ℕ) → stateCall s c ≡ refused (BadLine line byte) → check (content s) ≡ refused (BadLine line byte)
 unfolding request undo redo

@@ -39,15 +39,15 @@ pub record BadAt (file : List ℕ) (line byte : ℕ) : Type 0 where
   -- some ending makes a good line of the bytes before it
   pub hopeful : Mended (take byte (lineAt file line))
 
--- what the check tells of a bad line is so
-unfoldable pub BadLineTold : Type 0
-BadLineTold = (file : List ℕ) (line byte : ℕ) → check file ≡ refused (BadLine line byte) → BadAt file line byte
-
--- a bad line that an answer tells is the file's
+-- a bad line that this answer tells is the file's
 abbrev pub TellsOf : {A : Type 0} → List ℕ → Answer A → Type 0
 TellsOf file a = (line byte : ℕ) → a ≡ refused (BadLine line byte) → BadAt file line byte
 
--- what every other call on a file tells of a bad line
+-- what the check tells of a bad line is so
+unfoldable pub BadLineTold : Type 0
+BadLineTold = (file : List ℕ) → TellsOf file (check file)
+
+-- so of every other call on a file
 pub record CallsTell (file : List ℕ) : Type 0 where
   pub complete-tells : TellsOf file (complete file)
   pub lookup-tells : (group key : List ℕ) → TellsOf file (lookup file group key)
@@ -55,7 +55,7 @@ pub record CallsTell (file : List ℕ) : Type 0 where
   pub expand-tells : (locale location list : List ℕ) (run : ℕ) → TellsOf file (expand file locale location list run)
   pub edits-tell : (s : State) (c : Call) → content s ≡ file → TellsOf file (stateCall s c)
 
--- is so too
+-- what the other calls tell of a bad line is so too
 unfoldable pub BadLineToldByCalls : Type 0
 BadLineToldByCalls = (file : List ℕ) → CallsTell file
 

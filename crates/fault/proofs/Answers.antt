@@ -1,10 +1,10 @@
--- A do block that gives an answer passed each of its lines. Assumes nothing.
+-- A do block that gives an answer passed each of its lines, and one that refuses was refused by one. Assumes nothing.
 use mathlib.Core.Path.{_≡_, refl}
 use mathlib.Core.Bool.{Bool, true, false, false≢true}
 use mathlib.Core.Option.{Option, none, some}
 use Rattle.base.proofs.Tests.{no}
 use Rattle.fault.specs.declared.Fault.{Fault}
-use Rattle.fault.specs.Answer.{Answer, given, refused, _>>=_, need, some-or, accepted}
+use Rattle.fault.specs.Answer.{Answer, given, refused, _>>=_, need, some-or, unless, accepted}
 
 pub bind-given : {A B : Type 0} (x : Answer A) (k : A → Answer B) (b : B) → (x >>= k) ≡ given b → (a : A) × (x ≡ given a) × (k a ≡ given b)
 bind-given (given a) k b e = (a, refl, e)
@@ -17,6 +17,10 @@ need-given false f k a e = no (cc)
 pub some-given : {A B : Type 0} (o : Option A) (f : Fault) (k : A → Answer B) (b : B) → (some-or o f >>= k) ≡ given b → (a : A) × (o ≡ some a) × (k a ≡ given b)
 some-given (some a) f k b e = (a, refl, e)
 some-given none f k b e = no (cc)
+
+pub unless-refused : (o : Option Fault) (f : Fault) → unless o ≡ refused f → o ≡ some f
+unless-refused none f e = no (cc)
+unless-refused (some g) f e = cc
 
 -- what was given is one thing
 pub given-is : {A : Type 0} (a b : A) → given a ≡ given b → a ≡ b

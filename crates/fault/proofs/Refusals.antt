@@ -1,9 +1,10 @@
 -- What holds of an answer's refusal, line by line of a do block. Assumes nothing.
-use mathlib.Core.Path.{_≡_, refl, sym}
+use mathlib.Core.Path.{_≡_, refl, sym, ap, _∙_}
 use Prim.Native.Nat.{ℕ}
 use mathlib.Core.Bool.{Bool, true, false, false≢true}
 use mathlib.Core.Option.{Option, none, some}
 use lib.Dec.{eqb}
+use Rattle.base.specs.Choice.{maybe}
 use Rattle.base.proofs.Tests.{no}
 use Rattle.fault.specs.declared.Fault.{Fault}
 use Rattle.fault.specs.declared.Fault.the-variants.{TooLong, BadLine, FirstGroup, RepeatedGroup, RepeatedKey, NoPlainKey, BadArgument, Missing, BadEscape, UnfitText, NoRoom, NothingLeft, JournalFull, Damaged, BadExec, BadCode, PostfixesRemain, Incomplete}
@@ -24,9 +25,12 @@ module _ (P : Fault → Type 0) where
   if-bind (given x) k p h = h x
   if-bind (refused f) k p h = p
 
+  pub if-test : (t : Bool) (f : Fault) → P f → IfRefused P (need t f)
+  if-test true f p = tt
+  if-test false f p = p
+
   pub if-need : {A : Type 0} (t : Bool) (f : Fault) (k : Unit {0} → Answer A) → P f → ((u : Unit {0}) → IfRefused P (k u)) → IfRefused P (need t f >>= k)
-  if-need true f k p h = h tt
-  if-need false f k p h = p
+  if-need t f k p h = if-bind (need t f) k (if-test t f p) h
 
   pub if-or : {A : Type 0} (o : Option A) (f : Fault) → P f → IfRefused P (some-or o f)
   if-or (some x) f p = tt
@@ -34,6 +38,11 @@ module _ (P : Fault → Type 0) where
 
   pub if-some : {A B : Type 0} (o : Option A) (f : Fault) (k : A → Answer B) → P f → ((x : A) → IfRefused P (k x)) → IfRefused P (some-or o f >>= k)
   if-some o f k p h = if-bind (some-or o f) k (if-or o f p) h
+
+  -- a refusal where something is found
+  pub if-none : {A : Type 0} (o : Option A) (g : A → Fault) → ((x : A) → P (g x)) → IfRefused {A = Unit {0}} P (maybe o (given tt) (λ x. refused (g x)))
+  if-none none g p = tt
+  if-none (some x) g p = p x
 
   -- the refusal that was given
   pub of-refusal : {A : Type 0} (a : Answer A) (f : Fault) → IfRefused P a → a ≡ refused f → P f
@@ -67,7 +76,12 @@ byte-zero (BadCode at) n = refl
 byte-zero PostfixesRemain n = refl
 byte-zero (Incomplete line) n = refl
 
--- 2 comes from what was asked first, where nothing asked later gives it
+-- 2 comes from what is asked later, where the test gives another refusal
+pub came-later : {A : Type 0} (t : Bool) (f : Fault) (k : Unit {0} → Answer A) (line byte : ℕ) → Not2 f → (need t f >>= k) ≡ refused (BadLine line byte) → k tt ≡ refused (BadLine line byte)
+came-later true f k line byte n e = e
+came-later false f k line byte n e = let i : f ≡ BadLine line byte = cc in absurd (false≢true (sym n ∙ ap (λ (g : Fault). eqb (numberOf g) 2) i))
+
+-- 2 comes from what is asked first, where nothing asked later gives it
 pub came-first : {A B : Type 0} (a : Answer A) (k : A → Answer B) (line byte : ℕ) → ((x : A) → IfRefused Not2 (k x)) → (a >>= k) ≡ refused (BadLine line byte) → a ≡ refused (BadLine line byte)
 came-first (given x) k line byte h e = absurd (false≢true (sym (of-refusal Not2 (k x) (BadLine line byte) (h x) e)))
 came-first (refused f) k line byte h e = cc

@@ -7,12 +7,9 @@ const BEFORE: usize = 48;
 /// What stands for parts that are not shown.
 const CUT: &str = "...";
 
-/// From this character on some take two columns or run from right to left.
-const FIRST_OTHER: char = '\u{590}';
-
 /// The line, and below it a caret under the byte at `at`, counted from 0, or behind the line where `at` is its length. Control
-/// bytes are shown as `^I`, bytes that are no text and characters of other than one column as `\xFC`. Of a long line the part
-/// round the caret is shown.
+/// bytes are shown as `^I`, bytes that are no text and characters that may take other than one column as `\xFC`. Of a long line
+/// the part round the caret is shown.
 pub fn excerpt(line: &[u8], at: usize) -> String {
     let signs = signs(line);
     let caret = signs.iter().take_while(|sign| sign.end <= at).count();
@@ -72,10 +69,11 @@ fn signs(line: &[u8]) -> Vec<Sign> {
     signs
 }
 
-/// Whether a terminal shows the character as it is, in one column.
+/// Whether a terminal surely shows the character as it is, in one column and from left to right: Latin, Greek, Cyrillic and
+/// Armenian letters, punctuation and signs of money, without marks and blanks that are no character of their own.
 fn is_one_column(character: char) -> bool {
-    let is_plain = matches!(character, ' '..='~') || character.escape_debug().count() == 1;
-    is_plain && character < FIRST_OTHER
+    let is_familiar = matches!(character, ' '..='\u{58F}' | '\u{1E00}'..='\u{20CF}');
+    is_familiar && (character.is_ascii() || character.escape_debug().count() == 1)
 }
 
 #[cfg(test)]
@@ -120,10 +118,20 @@ mod tests {
         assert_eq!(shown("\u{E4}b".as_bytes(), 1), ["\u{E4}b", "^"]);
         let russian = "\u{416}=\x01".as_bytes();
         assert_eq!(shown(russian, 3), ["\u{416}=^A", "  ^"]);
-        // A combining mark, a soft hyphen, a letter of two columns and one from right to left.
+        // Quotation marks, a dash and the sign of the euro.
+        let price = "k=\u{201E}a\u{201C} \u{2013} 5 \u{20AC}";
+        let [line, caret] = shown([price, "\x01"].concat().as_bytes(), price.len());
+        assert_eq!(
+            (line, caret.len()),
+            (format!("{price}^A"), price.chars().count() + 1)
+        );
+        // Combining marks, a soft hyphen, blanks of no column, letters of two columns and one from right to left.
         for other in [
             "\u{308}",
+            "\u{20D0}",
             "\u{AD}",
+            "\u{200B}",
+            "\u{202E}",
             "\u{4E2D}",
             "\u{5D0}",
             "\u{1F600}",
