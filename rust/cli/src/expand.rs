@@ -5,7 +5,7 @@ use std::io::{self, Write};
 use std::os::unix::ffi::OsStrExt;
 use std::process::ExitCode;
 
-use kveldrim::{Refusal, DESKTOP_ENTRY};
+use kveldrim::{Kind, Refusal, DESKTOP_ENTRY};
 
 use crate::report::{refused, Trouble};
 
@@ -240,15 +240,15 @@ fn quoted(argument: &[u8]) -> Vec<u8> {
 /// A refusal in words, at its line and byte where they are known.
 fn trouble(asked: &Asked, file: &[u8], refusal: Refusal) -> Trouble {
     let say = |words: &str| refused(&asked.file, "", words.as_bytes());
-    match refusal.number {
-        7 => say("the locale is not well written (as de, de_AT, de_AT.UTF-8 or de_AT.UTF-8@euro)"),
-        8 => say(&missing(asked, file)),
-        9 | 15 | 16 => {
+    match refusal.kind {
+        Kind::Form => say("the locale is not well written (as de, de_AT, de_AT.UTF-8 or de_AT.UTF-8@euro)"),
+        Kind::Missing => say(&missing(asked, file)),
+        Kind::Escape | Kind::BadExec | Kind::BadCode => {
             let offset = place_in_file(asked, file, refusal);
-            Trouble::at(&asked.file, file, offset, refusal.words())
+            Trouble::at(&asked.file, file, offset, refusal.kind.words())
         }
-        10 => say("the name of a file to open is empty, or the location is over 4,096 bytes"),
-        14 => say("the names of the files to open are over 65,536 bytes, with 6 more for each"),
+        Kind::Unfit => say("the name of a file to open is empty, or the location is over 4,096 bytes"),
+        Kind::Damaged => say("the names of the files to open are over 65,536 bytes, with 6 more for each"),
         _ => Trouble::of_file(&asked.file, file, refusal),
     }
 }
@@ -270,7 +270,7 @@ fn place_in_file(asked: &Asked, file: &[u8], refusal: Refusal) -> usize {
     let place = refusal.place as usize;
     let exec = kveldrim::lookup_ends(file, DESKTOP_ENTRY, b"Exec").unwrap_or(0..0);
     let raw = &file[exec.clone()];
-    if refusal.number != 9 {
+    if refusal.kind != Kind::Escape {
         return exec.start + raw_place(raw, place);
     }
     let Ok(text) = kveldrim::read_text_vec(raw) else {

@@ -23,7 +23,7 @@ use std::path::Path;
 use std::process::ExitCode;
 
 use arguments::{Change, Command, Wanted};
-use kveldrim::{Document, Refusal};
+use kveldrim::{Document, Kind, Refusal};
 use report::Trouble;
 use store::Store;
 
@@ -131,8 +131,8 @@ fn edit(
 ) -> ExitCode {
     let saved = Store::edit(file, discard).and_then(|store| {
         let mut document = store.document();
-        call(&mut document).map_err(|refusal| match refusal.number {
-            14 => store.damaged(),
+        call(&mut document).map_err(|refusal| match refusal.kind {
+            Kind::Damaged => store.damaged(),
             _ => refused(document.file(), refusal),
         })?;
         store.save(&document)
@@ -148,8 +148,8 @@ fn tell(file: &OsStr) -> Result<Vec<u8>, Trouble> {
     let store = Store::look(file)?;
     let document = store.document();
     let bytes = document.file().to_vec();
-    log::lines(document).map_err(|refusal| match refusal.number {
-        14 => store.damaged(),
+    log::lines(document).map_err(|refusal| match refusal.kind {
+        Kind::Damaged => store.damaged(),
         _ => Trouble::of_file(file, &bytes, refusal),
     })
 }

@@ -6,7 +6,7 @@ use std::io::{self, IsTerminal, Write};
 use std::os::unix::ffi::OsStrExt;
 use std::process::ExitCode;
 
-use kveldrim::{Place, Refusal, DESKTOP_ENTRY};
+use kveldrim::{Kind, Place, Refusal, DESKTOP_ENTRY};
 
 use crate::arguments::{Change, Wanted};
 use crate::excerpt::excerpt;
@@ -80,9 +80,9 @@ impl Trouble {
 
     /// A refusal of the file itself.
     pub fn of_file(file: &OsStr, bytes: &[u8], refusal: Refusal) -> Trouble {
-        let words = match (refusal.number, refusal.place) {
-            (18, 0) => missing_key(bytes),
-            _ => refusal.words(),
+        let words = match (refusal.kind, refusal.place) {
+            (Kind::Incomplete, 0) => missing_key(bytes),
+            _ => refusal.kind.words(),
         };
         match refusal.at() {
             Place::Byte { line, byte } => {
@@ -112,9 +112,9 @@ impl Trouble {
     /// A refusal of what is asked for, or of the file it is asked of.
     pub fn of_question(wanted: &Wanted, bytes: &[u8], refusal: Refusal) -> Trouble {
         let (key, group) = (wanted.key.as_bytes(), wanted.group.as_bytes());
-        match refusal.number {
-            7 => refused(&wanted.file, "", FORMS),
-            8 => {
+        match refusal.kind {
+            Kind::Form => refused(&wanted.file, "", FORMS),
+            Kind::Missing => {
                 let words = [b"there is no key ", key, b" in a group ", group];
                 refused(&wanted.file, "", &words.concat())
             }
@@ -129,13 +129,13 @@ impl Trouble {
             let header = [b"[", group, b"]"].concat();
             file.split(|byte| *byte == b'\n').any(|line| line == header)
         };
-        let words = match refusal.number {
-            7 => FORMS.to_vec(),
-            8 if has_group(bytes) => [b"there is no key ", key, b" in a group ", group].concat(),
-            8 => [b"there is no group ", group].concat(),
-            10 => UNFIT.to_vec(),
-            11 => b"the file would be over 32,768 bytes".to_vec(),
-            13 => [b"its journal has no room for this edit", DISCARD].concat(),
+        let words = match refusal.kind {
+            Kind::Form => FORMS.to_vec(),
+            Kind::Missing if has_group(bytes) => [b"there is no key ", key, b" in a group ", group].concat(),
+            Kind::Missing => [b"there is no group ", group].concat(),
+            Kind::Unfit => UNFIT.to_vec(),
+            Kind::NoRoom => b"the file would be over 32,768 bytes".to_vec(),
+            Kind::JournalFull => [b"its journal has no room for this edit", DISCARD].concat(),
             _ => return Trouble::of_file(&change.file, bytes, refusal),
         };
         refused(&change.file, "", &words)
@@ -143,8 +143,8 @@ impl Trouble {
 
     /// A refusal of an undo or a redo.
     pub fn of_step(file: &OsStr, bytes: &[u8], refusal: Refusal, step: &str) -> Trouble {
-        match refusal.number {
-            12 => refused(file, "", format!("there is nothing to {step}").as_bytes()),
+        match refusal.kind {
+            Kind::Nothing => refused(file, "", format!("there is nothing to {step}").as_bytes()),
             _ => Trouble::of_file(file, bytes, refusal),
         }
     }
@@ -156,7 +156,7 @@ impl Trouble {
                 &wanted.file,
                 bytes,
                 start + offset as usize,
-                refusal.words(),
+                refusal.kind.words(),
             ),
             _ => Trouble::of_file(&wanted.file, bytes, refusal),
         }

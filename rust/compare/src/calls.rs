@@ -116,13 +116,9 @@ pub(crate) fn named(
 
 /// A refusal of the bindings, to be held against one of the reference.
 pub(crate) fn refusal(refusal: kveldrim::Refusal) -> Refusal {
-    let kveldrim::Refusal {
-        number,
-        place,
-        byte,
-    } = refusal;
+    let kveldrim::Refusal { kind, place, byte } = refusal;
     Refusal {
-        number,
+        number: kind.number(),
         place,
         byte,
     }

@@ -1,6 +1,6 @@
 //! Expands the Exec of a file into the arguments of one run. Nothing is started.
 
-use crate::{grown, told, Refusal};
+use crate::{grown, told, Kind, Refusal};
 
 extern "C" {
     /// The expansion of the C interface, as `include/kveldrim.h` declares it.
@@ -89,7 +89,7 @@ pub fn runs(
     let list = list_of(items);
     // There is always a program to write, so without room the last refusal of all is told: 11.
     let refused = |run| match expand(file, locale, location, &list, run, &mut []) {
-        Err(refusal) if refusal.number != 11 => Err(refusal),
+        Err(refusal) if refusal.kind != Kind::NoRoom => Err(refusal),
         _ => Ok(()),
     };
     refused(0)?;

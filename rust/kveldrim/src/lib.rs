@@ -8,7 +8,7 @@
 //! assert_eq!(kveldrim::check(file), Ok(()));
 //! assert_eq!(kveldrim::choose(file, kveldrim::DESKTOP_ENTRY, b"Name", b"fr_CA.UTF-8"), Ok(&b"Lire"[..]));
 //! let refusal = kveldrim::check(b"[Desktop Entry]\nName\n").unwrap_err();
-//! assert_eq!((refusal.number, refusal.place, refusal.byte), (2, 2, 4));
+//! assert_eq!((refusal.kind, refusal.place, refusal.byte), (kveldrim::Kind::BadLine, 2, 4));
 //! ```
 
 mod edit;
@@ -20,7 +20,7 @@ use std::ops::Range;
 
 pub use edit::{Buffers, Document, Edit, Edits, Numbers, JOURNAL_BOUND};
 pub use expand::{expand, expand_args, list_of, runs, Arguments};
-pub use refusal::{Place, Refusal};
+pub use refusal::{Kind, Place, Refusal};
 
 /// The most bytes that a file may have.
 pub const FILE_BOUND: usize = 32_768;
@@ -34,7 +34,7 @@ fn told(call: impl FnOnce(&mut u64, &mut u64) -> u32) -> Result<(), Refusal> {
     match call(&mut place, &mut byte) {
         0 => Ok(()),
         number => Err(Refusal {
-            number,
+            kind: Kind::of(number).expect("a refusal of the library's table"),
             place,
             byte,
         }),
@@ -170,7 +170,7 @@ fn grown(
                 out.truncate(written);
                 return Ok(out);
             }
-            Err(refusal) if refusal.number == 11 && out.len() < most => {
+            Err(refusal) if refusal.kind == Kind::NoRoom && out.len() < most => {
                 out.resize(most.min(out.len().saturating_mul(2)), 0);
             }
             Err(refusal) => return Err(refusal),

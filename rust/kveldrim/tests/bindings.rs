@@ -3,14 +3,14 @@
 use std::process::Command;
 
 use kveldrim::{
-    ffi, Buffers, Document, Edit, Edits, Elements, Numbers, Place, Refusal, DESKTOP_ENTRY,
+    ffi, Buffers, Document, Edit, Edits, Elements, Kind, Numbers, Place, Refusal, DESKTOP_ENTRY,
 };
 
 const T: &[u8] = b"[Desktop Entry]\nType=Application\nName=Lesen\nName[fr]=Lire\nExec=view %F\n";
 
 fn refused<A>(number: u32, place: u64) -> Result<A, Refusal> {
     Err(Refusal {
-        number,
+        kind: Kind::of(number).unwrap(),
         place,
         byte: 0,
     })
@@ -41,7 +41,7 @@ fn files() {
 fn bytes_of_bad_lines() {
     let bad = b"[Desktop Entry]\nName\t=x\n";
     let told = Refusal {
-        number: 2,
+        kind: Kind::BadLine,
         place: 2,
         byte: 4,
     };
@@ -196,29 +196,30 @@ fn edits_of_a_document() {
 #[test]
 fn words_of_refusals() {
     let of = |number, place| Refusal {
-        number,
+        kind: Kind::of(number).unwrap(),
         place,
         byte: 0,
     };
     let bad = Refusal {
-        number: 2,
+        kind: Kind::BadLine,
         place: 7,
         byte: 4,
     };
     assert_eq!(of(1, 0).to_string(), "the file is over 32,768 bytes");
     assert!(bad
         .to_string()
-        .starts_with("line 7, after 4 bytes: this line is not blank"));
+        .starts_with("line 7, after 4 bytes: a line is not blank"));
     assert_eq!(bad.at(), Place::Byte { line: 7, byte: 4 });
     assert!(of(9, 0)
         .to_string()
         .starts_with("after 0 bytes of the value: unknown"));
     assert_eq!(of(3, 0).at(), Place::None);
     assert_eq!(of(18, 4).at(), Place::Line(4));
-    let unknown = of(99, 0).words();
-    for number in 1..=18 {
-        assert_ne!(of(number, 0).words(), unknown, "{number}");
+    for (at, kind) in Kind::ALL.iter().enumerate() {
+        assert_eq!(kind.number() as usize, at + 1);
+        assert_eq!(Kind::of(kind.number()), Some(*kind));
     }
+    assert_eq!(Kind::of(0), None);
 }
 
 /// The library, the declarations here and the header are of one interface.

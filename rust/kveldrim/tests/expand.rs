@@ -1,6 +1,6 @@
 //! The expansion of the bindings, held to worked examples.
 
-use kveldrim::{expand, expand_args, list_of, runs, Arguments, Refusal};
+use kveldrim::{expand, expand_args, list_of, runs, Arguments, Kind, Refusal};
 
 const T: &[u8] = b"[Desktop Entry]\nType=Application\nName=Lesen\nName[fr]=Lire\nExec=view %F\n";
 
@@ -12,7 +12,7 @@ fn with_exec(exec: &str) -> Vec<u8> {
 
 fn refused<A>(number: u32, place: u64) -> Result<A, Refusal> {
     Err(Refusal {
-        number,
+        kind: Kind::of(number).unwrap(),
         place,
         byte: 0,
     })
