@@ -1,210 +1,235 @@
-//! Reads the words of the command line. They stay as the bytes that came in.
+//! The words of the command line. Names, keys and texts stay as the bytes that came in.
 
-use std::ffi::{OsStr, OsString};
-use std::os::unix::ffi::OsStrExt;
+use std::ffi::OsString;
+use std::time::Duration;
 
-/// What is to be done.
+use clap::{Args, Parser, Subcommand};
+use clap_complete::Shell;
+
+/// Checks .desktop files, reads and edits their values and expands their commands
+#[derive(Parser)]
+#[command(name = "kveldrim", version, after_help = AFTER_HELP)]
+pub struct Line {
+    #[command(subcommand)]
+    pub command: Command,
+}
+
+const AFTER_HELP: &str = "\
+`kveldrim COMMAND --help` tells more of each. A word -- ends the options; - as FILE is standard input, for commands that only
+read. Faults are told as FILE:LINE:BYTE: what is wrong, as far as line and byte are known; both count from 1. On a terminal the
+line follows, with a caret under the byte.
+
+Exit status: 0 all is well; 1 a file, a question or an edit was refused; 2 bad usage, or a file that cannot be read or written;
+75 another kveldrim edits the file just now, so try again.";
+
+#[derive(Subcommand)]
 pub enum Command {
-    Help,
-    Version,
-    Check(Vec<OsString>),
-    Complete(Vec<OsString>),
-    Get(Wanted),
-    List(Wanted),
-    Set(Change),
-    Remove(Change),
-    Undo(OsString),
-    Redo(OsString),
-    Log(OsString),
+    /// Tells whether files are well formed
+    Check(Files),
+    /// Tells whether files are well formed and have what an entry needs (Type, Name, Exec or URL ..)
+    Complete(Files),
+    /// Writes the value of a key, its escapes read
+    Get(Get),
+    /// Writes the elements of a list, each on a line of its own
+    List(List),
+    /// Sets a key to a text, which is escaped as needed
+    Set(Set),
+    /// Removes a key with its line
+    Remove(Remove),
+    /// Takes the latest edits back
+    Undo(Step),
+    /// Makes the edits once more that were taken back last
+    Redo(Step),
+    /// Tells the edits that stand, and those that wait for redo
+    Log(Log),
+    /// Writes a file's command, with the files to open put in; starts nothing
+    Expand(Expand),
+    /// Writes a script that completes these commands in a shell
+    Completions {
+        /// The shell
+        shell: Shell,
+    },
+}
+
+#[derive(Args)]
+pub struct Files {
+    /// Files, folders to search for .desktop files, or - for standard input
+    #[arg(value_name = "FILE", required = true)]
+    pub files: Vec<OsString>,
+    /// Tells every fault of a file, not only the first
+    #[arg(long)]
+    pub all: bool,
+    /// Tells nothing; the exit status does
+    #[arg(long, short, conflicts_with = "json")]
+    pub quiet: bool,
+    #[command(flatten)]
+    pub json: Json,
+}
+
+#[derive(Args)]
+pub struct Json {
+    /// Writes one JSON object a line (docs/JSON.md)
+    #[arg(long)]
+    pub json: bool,
+}
+
+/// A group that is asked about or edited.
+#[derive(Args)]
+pub struct Group {
+    /// The group, without brackets
+    #[arg(long, value_name = "GROUP", default_value = "Desktop Entry")]
+    pub group: OsString,
 }
 
 /// The value that is asked for.
+#[derive(Args)]
 pub struct Wanted {
+    /// The file, or - for standard input
     pub file: OsString,
+    /// The key; it may have a locale of its own, as Name[de], if there is no --locale
     pub key: OsString,
-    pub group: OsString,
+    #[command(flatten)]
+    pub group: Group,
+    #[command(flatten)]
+    pub locale: Locale,
+    #[command(flatten)]
+    pub json: Json,
+}
+
+#[derive(Args)]
+pub struct Locale {
+    /// The value that suits the locale L best, as de_AT.UTF-8; auto: the locales of LANGUAGE, LC_ALL, LC_MESSAGES or LANG, the
+    /// first that is set
+    #[arg(long, value_name = "L")]
     pub locale: Option<OsString>,
+}
+
+#[derive(Args)]
+pub struct Get {
+    #[command(flatten)]
+    pub wanted: Wanted,
+    /// The value as it stands in the file
+    #[arg(long)]
     pub raw: bool,
 }
 
-/// The key, with its locale, that is to be set to a text or removed.
-pub struct Change {
+#[derive(Args)]
+pub struct List {
+    #[command(flatten)]
+    pub wanted: Wanted,
+    /// A zero byte after each element, in place of a line feed
+    #[arg(long, conflicts_with = "json")]
+    pub null: bool,
+}
+
+/// The key that is set or removed.
+#[derive(Args)]
+pub struct Key {
+    /// The file
     pub file: OsString,
+    /// The key
     pub key: OsString,
-    pub group: OsString,
+}
+
+/// How a key is edited.
+#[derive(Args)]
+pub struct Change {
+    #[command(flatten)]
+    pub group: Group,
+    /// The key KEY[L]
+    #[arg(long, value_name = "L")]
+    pub locale: Option<OsString>,
+    /// Puts the journal aside under another name and starts a new one
+    #[arg(long)]
+    pub discard_journal: bool,
+    /// Gives no warning of a file that is no longer complete, or of a text that is not read back
+    #[arg(long)]
+    pub no_warn: bool,
+    #[command(flatten)]
+    pub manner: Manner,
+}
+
+/// How an edit is made.
+#[derive(Args)]
+pub struct Manner {
+    /// Waits up to so many seconds for another kveldrim that edits the file
+    #[arg(long, value_name = "SECONDS", default_value = "0", hide_default_value = true, value_parser = seconds)]
+    pub wait: Duration,
+    /// Tells what would change, and changes nothing
+    #[arg(long)]
+    pub dry_run: bool,
+}
+
+fn seconds(word: &str) -> Result<Duration, String> {
+    let seconds: Option<f64> = word.parse().ok();
+    let wait = seconds.and_then(|seconds| Duration::try_from_secs_f64(seconds).ok());
+    wait.ok_or_else(|| "a number of seconds is needed, as 5 or 0.5".into())
+}
+
+#[derive(Args)]
+pub struct Set {
+    #[command(flatten)]
+    pub key: Key,
+    /// The text, as it is to be read back
     pub text: OsString,
-    pub discard: bool,
+    #[command(flatten)]
+    pub change: Change,
 }
 
-/// The words of a command line: plain ones in order, and the options.
-#[derive(Default)]
-struct Words {
-    plain: Vec<OsString>,
-    group: Option<OsString>,
-    locale: Option<OsString>,
-    raw: bool,
-    discard: bool,
-    help: bool,
-    version: bool,
+#[derive(Args)]
+pub struct Remove {
+    #[command(flatten)]
+    pub key: Key,
+    #[command(flatten)]
+    pub change: Change,
 }
 
-/// The command that the words ask for; Err says what is wrong with them.
-pub fn read(words: impl Iterator<Item = OsString>) -> Result<Command, Vec<u8>> {
-    let mut words = split(words)?;
-    if words.help {
-        return Ok(Command::Help);
-    }
-    if words.version {
-        return Ok(Command::Version);
-    }
-    if words.plain.is_empty() {
-        return Err("a command is missing".into());
-    }
-    let name = words.plain.remove(0);
-    match name.to_str() {
-        Some(name @ "check") => Ok(Command::Check(words.files(name)?)),
-        Some(name @ "complete") => Ok(Command::Complete(words.files(name)?)),
-        Some(name @ "get") => Ok(Command::Get(words.wanted(name)?)),
-        Some(name @ "list") => Ok(Command::List(words.wanted(name)?)),
-        Some(name @ "set") => Ok(Command::Set(words.change(name)?)),
-        Some(name @ "remove") => Ok(Command::Remove(words.change(name)?)),
-        Some(name @ "undo") => Ok(Command::Undo(words.file(name)?)),
-        Some(name @ "redo") => Ok(Command::Redo(words.file(name)?)),
-        Some(name @ "log") => Ok(Command::Log(words.file(name)?)),
-        Some("expand") => Err("expand must stand before its options".into()),
-        _ => Err([b"there is no command ", name.as_bytes()].concat()),
-    }
+#[derive(Args)]
+pub struct Step {
+    /// The file
+    pub file: OsString,
+    /// How many edits
+    #[arg(value_name = "N", default_value = "1", value_parser = clap::value_parser!(u32).range(1..))]
+    pub steps: u32,
+    #[command(flatten)]
+    pub manner: Manner,
 }
 
-impl Words {
-    /// Whether no option stands there but these.
-    fn only(&self, name: &str, allowed: &[&str]) -> Result<(), Vec<u8>> {
-        let given = [
-            ("--group", self.group.is_some()),
-            ("--locale", self.locale.is_some()),
-            ("--raw", self.raw),
-            ("--discard-journal", self.discard),
-        ];
-        let wrong = given
-            .iter()
-            .find(|(option, is)| *is && !allowed.contains(option));
-        wrong.map_or(Ok(()), |(option, _)| {
-            Err(format!("{name} takes no option {option}").into())
-        })
-    }
-
-    /// Just so many plain words, which are these.
-    fn plain<const N: usize>(&self, name: &str, words: &str) -> Result<[OsString; N], Vec<u8>> {
-        let plain: Result<[OsString; N], _> = self.plain.clone().try_into();
-        plain.map_err(|_| format!("{name} needs {words}").into())
-    }
-
-    fn group(&self) -> OsString {
-        let group = OsStr::from_bytes(kveldrim::DESKTOP_ENTRY);
-        self.group.as_deref().unwrap_or(group).to_owned()
-    }
-
-    fn files(self, name: &str) -> Result<Vec<OsString>, Vec<u8>> {
-        self.only(name, &[])?;
-        match self.plain.is_empty() {
-            true => Err(format!("{name} needs the name of a file").into()),
-            false => Ok(self.plain),
-        }
-    }
-
-    fn file(self, name: &str) -> Result<OsString, Vec<u8>> {
-        self.only(name, &[])?;
-        let [file] = self.plain(name, "the name of a file")?;
-        Ok(file)
-    }
-
-    fn wanted(self, name: &str) -> Result<Wanted, Vec<u8>> {
-        let allowed: &[&str] = match name {
-            "get" => &["--group", "--locale", "--raw"],
-            _ => &["--group"],
-        };
-        self.only(name, allowed)?;
-        let [file, key] = self.plain(name, "the name of a file and a key")?;
-        Ok(Wanted {
-            file,
-            key,
-            group: self.group(),
-            locale: self.locale,
-            raw: self.raw,
-        })
-    }
-
-    fn change(self, name: &str) -> Result<Change, Vec<u8>> {
-        self.only(name, &["--group", "--locale", "--discard-journal"])?;
-        let (file, mut key, text) = match name {
-            "set" => {
-                let [file, key, text] = self.plain(name, "the name of a file, a key and a text")?;
-                (file, key, text)
-            }
-            _ => {
-                let [file, key] = self.plain(name, "the name of a file and a key")?;
-                (file, key, OsString::new())
-            }
-        };
-        match &self.locale {
-            Some(locale) if locale == "auto" => {
-                return Err(format!("{name} needs a locale by its name, not auto").into())
-            }
-            Some(locale) => {
-                key.push("[");
-                key.push(locale);
-                key.push("]");
-            }
-            None => {}
-        }
-        Ok(Change {
-            file,
-            key,
-            group: self.group(),
-            text,
-            discard: self.discard,
-        })
-    }
+#[derive(Args)]
+pub struct Log {
+    /// The file
+    pub file: OsString,
+    #[command(flatten)]
+    pub json: Json,
 }
 
-/// Parts the options from the plain words. A value stands in the word after its option, or after a `=`.
-fn split(mut words: impl Iterator<Item = OsString>) -> Result<Words, Vec<u8>> {
-    let mut found = Words::default();
-    while let Some(word) = words.next() {
-        if word == "--" {
-            found.plain.extend(words);
-            break;
-        }
-        if !word.as_bytes().starts_with(b"-") {
-            found.plain.push(word);
-            continue;
-        }
-        let mut parts = word.as_bytes().splitn(2, |byte| *byte == b'=');
-        let option = parts.next().unwrap_or_default();
-        let value = parts
-            .next()
-            .map(|value| OsStr::from_bytes(value).to_owned());
-        let flag = match option {
-            b"--raw" => Some(&mut found.raw),
-            b"--discard-journal" => Some(&mut found.discard),
-            b"--help" | b"-h" => Some(&mut found.help),
-            b"--version" => Some(&mut found.version),
-            _ => None,
-        };
-        if let (Some(flag), None) = (flag, &value) {
-            *flag = true;
-            continue;
-        }
-        let place = match option {
-            b"--group" => &mut found.group,
-            b"--locale" => &mut found.locale,
-            _ => return Err([b"there is no option ", word.as_bytes()].concat()),
-        };
-        let value = value.or_else(|| words.next());
-        let value = value.ok_or_else(|| [option, b" needs a word after it"].concat())?;
-        if place.replace(value).is_some() {
-            return Err([option, b" stands twice"].concat());
-        }
-    }
-    Ok(found)
+#[derive(Args)]
+#[command(after_help = "\
+A run is one line: its arguments parted by spaces, quoted where needed, so that it can be pasted into dash, bash and zsh. With %f
+or %u in Exec each file has a run of its own, numbered from 0. Without --run and --all run 0 is written, and it is told on
+standard error if there are more.")]
+pub struct Expand {
+    /// The file with the command, or - for standard input
+    pub file: OsString,
+    /// The files to open
+    pub files: Vec<OsString>,
+    #[command(flatten)]
+    pub locale: Locale,
+    /// Where FILE is, for %k (without: FILE)
+    #[arg(long, value_name = "PATH")]
+    pub location: Option<OsString>,
+    /// Writes run N, from 0
+    #[arg(long, value_name = "N", conflicts_with_all = ["all", "runs"])]
+    pub run: Option<u64>,
+    /// Writes all runs, a line for each
+    #[arg(long, conflicts_with = "runs")]
+    pub all: bool,
+    /// Writes just how many runs there are
+    #[arg(long)]
+    pub runs: bool,
+    /// Writes a zero byte after each argument and quotes none; one run only, so not with --all: ask for each by --run N
+    #[arg(long, conflicts_with_all = ["all", "runs", "json"])]
+    pub null: bool,
+    #[command(flatten)]
+    pub json: Json,
 }

@@ -108,7 +108,7 @@ impl Drop for Place {
 
 /// What a run would find: the file with its journal.
 fn found(file: &Path) -> Pair {
-    let store = Store::look(file.as_os_str()).unwrap_or_else(|trouble| {
+    let store = Store::look(file.as_os_str(), false).unwrap_or_else(|trouble| {
         trouble.tell();
         panic!("no matching pair is found");
     });

@@ -1,52 +1,151 @@
 //! What a journal records, in words.
 
 use kveldrim::{Document, Edit, Edits, Refusal};
+use serde_json::{json, Value};
 
-/// A line for each edit, from the first on: whether it stands or waits, and what it changed. The file is taken back to its
-/// start and forth again, so an edit is told by the file that it found.
-pub fn lines(mut document: Document) -> Result<Vec<u8>, Refusal> {
+use crate::json::text;
+
+/// What an edit does to the entry of a key. Values are raw, as they stand in the file.
+pub struct Told {
+    group: Vec<u8>,
+    key: Vec<u8>,
+    old: Option<Vec<u8>>,
+    new: Option<Vec<u8>>,
+}
+
+/// An edit of a journal: whether it stands, and what it does.
+pub struct Recorded {
+    stands: bool,
+    told: Told,
+}
+
+/// When an edit is made.
+#[derive(Clone, Copy)]
+pub enum Tense {
+    Past,
+    Conditional,
+}
+
+/// Every edit of a journal, from the first on. The file is taken back to its start and forth again, so an edit is told by the
+/// file that it found.
+pub fn edits(mut document: Document) -> Result<Vec<Recorded>, Refusal> {
     let journal = document.journal().to_vec();
     let standing = document.standing();
     while document.standing() > 0 {
         document.undo()?;
     }
-    let mut lines = Vec::new();
+    let mut recorded = Vec::new();
     for edit in Edits::new(&journal) {
         let stands = document.standing() < standing;
-        let state: &[u8] = if stands { b"stands: " } else { b"waits: " };
-        let found = document.file().to_vec();
+        let told = Told::of(document.file(), &edit);
         document.redo()?;
-        lines.extend([state, &words(&found, &edit), b"\n"].concat());
+        recorded.push(Recorded { stands, told });
     }
-    if lines.is_empty() {
-        lines.extend(b"no edit is recorded\n");
-    }
-    Ok(lines)
+    Ok(recorded)
 }
 
-/// What an edit changes in the file that it finds. Values are told as they stand there.
-fn words(file: &[u8], edit: &Edit) -> Vec<u8> {
-    let Edit { place, old, new } = *edit;
-    let group = group_at(&file[..place]);
-    // Only a line that comes or goes has an LF.
-    let (key, change) = match (old.contains(&b'\n'), new.contains(&b'\n')) {
-        (false, true) => entry(new, b"was added"),
-        (true, false) => entry(old, b"was removed"),
-        _ => {
-            let start = file[..place].iter().rposition(|byte| *byte == b'\n');
-            let line = &file[start.map_or(0, |at| at + 1)..];
-            let change = [b"\"", old, b"\" became \"", new, b"\""].concat();
-            (parts(line).0, change)
+impl Recorded {
+    /// The edit in a line of words.
+    pub fn line(&self) -> Vec<u8> {
+        let state: &[u8] = if self.stands { b"stands: " } else { b"waits: " };
+        [state, &self.told.line(Tense::Past)].concat()
+    }
+
+    /// The edit as an object (docs/JSON.md).
+    pub fn object(&self) -> Value {
+        let Told {
+            group,
+            key,
+            old,
+            new,
+        } = &self.told;
+        let value = |raw: &Option<Vec<u8>>| raw.as_deref().map(text);
+        json!({
+            "state": if self.stands { "stands" } else { "waits" },
+            "group": text(group),
+            "key": text(key),
+            "old": value(old),
+            "new": value(new),
+        })
+    }
+}
+
+impl Told {
+    /// What an edit does in the file that it finds.
+    pub fn of(file: &[u8], edit: &Edit) -> Told {
+        let Edit { place, old, new } = *edit;
+        // Only a line that comes or goes has an LF.
+        let (key, old, new) = match (old.contains(&b'\n'), new.contains(&b'\n')) {
+            (false, true) => {
+                let (key, value) = entry(new);
+                (key, None, Some(value))
+            }
+            (true, false) => {
+                let (key, value) = entry(old);
+                (key, Some(value), None)
+            }
+            _ => {
+                let start = file[..place].iter().rposition(|byte| *byte == b'\n');
+                let line = &file[start.map_or(0, |at| at + 1)..];
+                (parts(line).0, Some(old), Some(new))
+            }
+        };
+        Told {
+            group: group_at(&file[..place]).to_vec(),
+            key: key.to_vec(),
+            old: old.map(<[u8]>::to_vec),
+            new: new.map(<[u8]>::to_vec),
         }
-    };
-    [key, b" in ", group, b": ", &change].concat()
+    }
+
+    /// The edit in words, without a line's end.
+    pub fn line(&self, tense: Tense) -> Vec<u8> {
+        let [become_, added, removed] = match tense {
+            Tense::Past => ["became", "was added", "was removed"],
+            Tense::Conditional => ["would become", "would be added", "would be removed"],
+        };
+        let change = match (&self.old, &self.new) {
+            (Some(old), Some(new)) => format!("{} {become_} {}", quoted(old), quoted(new)),
+            (Some(old), None) => format!("{} {removed}", quoted(old)),
+            (None, Some(new)) => format!("{} {added}", quoted(new)),
+            (None, None) => String::new(),
+        };
+        [
+            &self.key,
+            &b" in "[..],
+            &self.group,
+            b": ",
+            change.as_bytes(),
+        ]
+        .concat()
+    }
 }
 
-/// The key of an entry's line, which has its LF before or behind it, and what became of its value.
-fn entry<'a>(line: &'a [u8], became: &[u8]) -> (&'a [u8], Vec<u8>) {
+/// The text of a raw value in quotes, in which a quote, a backslash, LF, tab and CR are escaped. A value whose escapes cannot be
+/// read is marked as raw.
+fn quoted(raw: &[u8]) -> String {
+    let (mark, text) = match kveldrim::read_text_vec(raw) {
+        Ok(text) => ("", text),
+        Err(_) => ("raw ", raw.to_vec()),
+    };
+    let mut words = format!("{mark}\"");
+    for character in String::from_utf8_lossy(&text).chars() {
+        match character {
+            '"' | '\\' => words.extend(['\\', character]),
+            '\n' => words.push_str("\\n"),
+            '\t' => words.push_str("\\t"),
+            '\r' => words.push_str("\\r"),
+            _ => words.push(character),
+        }
+    }
+    words.push('"');
+    words
+}
+
+/// The key and the value of an entry's line, which has its LF before or behind it.
+fn entry(line: &[u8]) -> (&[u8], &[u8]) {
     let line = line.strip_suffix(b"\n").unwrap_or(line);
-    let (key, value) = parts(line.strip_prefix(b"\n").unwrap_or(line));
-    (key, [b"\"", value, b"\" ", became].concat())
+    parts(line.strip_prefix(b"\n").unwrap_or(line))
 }
 
 /// The key and the value of an entry's line.

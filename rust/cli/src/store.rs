@@ -22,7 +22,7 @@ pub struct Store {
 
 impl Store {
     /// Opens a file for an edit. With `discard` its journal is put aside when the edit is saved, and a new one starts.
-    pub fn edit(file: &OsStr, discard: bool) -> Result<Store, Trouble> {
+    pub fn edit(file: &OsStr, discard: bool, _wait: std::time::Duration) -> Result<Store, Trouble> {
         let uneditable = |error: io::Error| Trouble::uneditable(file, &error);
         let names = Names::of(file).map_err(|error| Trouble::unreadable(file, &error))?;
         // A rename would replace a file that may not be written.
@@ -36,7 +36,7 @@ impl Store {
     }
 
     /// Opens a file to tell of it. Where nothing can be written, nobody else edits it either.
-    pub fn look(file: &OsStr) -> Result<Store, Trouble> {
+    pub fn look(file: &OsStr, _discard: bool) -> Result<Store, Trouble> {
         let names = Names::of(file).map_err(|error| Trouble::unreadable(file, &error))?;
         let lock = match Lock::of(&names) {
             Ok(None) => return Err(Trouble::busy(file)),

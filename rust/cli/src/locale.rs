@@ -1,0 +1,147 @@
+//! Which locales are asked for: one by its name, or those of the environment.
+
+use std::env;
+use std::ffi::{OsStr, OsString};
+use std::ops::Range;
+use std::os::unix::ffi::{OsStrExt, OsStringExt};
+
+use kveldrim::Refusal;
+
+use crate::report::{shown, warn};
+
+/// The word that means the locales of the environment.
+const AUTO: &str = "auto";
+
+/// The locales that a `--locale` asks for, the first first. Those of the environment that are not of the form are passed over
+/// with a warning.
+pub fn asked(locale: &OsStr) -> Vec<Vec<u8>> {
+    match locale == AUTO {
+        true => of_environment(|name| env::var_os(name)),
+        false => vec![locale.as_bytes().to_vec()],
+    }
+}
+
+pub fn is_auto(locale: &OsStr) -> bool {
+    locale == AUTO
+}
+
+/// The locales of the first variable that is set and not empty. LANGUAGE has a list, parted by colons.
+fn of_environment(variable: impl Fn(&str) -> Option<OsString>) -> Vec<Vec<u8>> {
+    let set = |name: &&str| variable(name).is_some_and(|value| !value.is_empty());
+    let names = ["LANGUAGE", "LC_ALL", "LC_MESSAGES", "LANG"];
+    let Some(name) = names.into_iter().find(set) else {
+        return Vec::new();
+    };
+    let value = variable(name).unwrap_or_default().into_vec();
+    let parts: Vec<&[u8]> = match name {
+        "LANGUAGE" => value.split(|byte| *byte == b':').collect(),
+        _ => vec![&value],
+    };
+    let mut locales = Vec::new();
+    for locale in parts.into_iter().filter(|locale| !locale.is_empty()) {
+        match is_locale(locale) {
+            true => locales.push(locale.to_vec()),
+            false => {
+                let form = " is not a locale (as de, de_AT or de_AT.UTF-8@euro) and is passed over";
+                let of = [b" of ", name.as_bytes(), form.as_bytes()].concat();
+                warn(&[&shown(OsStr::from_bytes(locale))[..], &of].concat());
+            }
+        }
+    }
+    locales
+}
+
+/// Whether a word is of the form of a locale, as the core sees it.
+pub fn is_locale(word: &[u8]) -> bool {
+    kveldrim::choose(
+        b"[Desktop Entry]\nA=\n",
+        kveldrim::DESKTOP_ENTRY,
+        b"A",
+        word,
+    )
+    .is_ok()
+}
+
+/// Where the value of a key stands that the first of the locales takes which has one of its own; else that of the plain key.
+pub fn choose(
+    file: &[u8],
+    group: &[u8],
+    key: &[u8],
+    locales: &[Vec<u8>],
+) -> Result<Range<usize>, Refusal> {
+    let plain = kveldrim::choose_ends(file, group, key, b"")?;
+    for locale in locales {
+        let chosen = kveldrim::choose_ends(file, group, key, locale)?;
+        if chosen != plain || is_plain(locale) {
+            return Ok(chosen);
+        }
+    }
+    Ok(plain)
+}
+
+/// The one of the locales that an expansion takes: the first that has a Name of its own, else the first of all.
+pub fn of_name(file: &[u8], locales: &[Vec<u8>]) -> Vec<u8> {
+    let name =
+        |locale: &[u8]| kveldrim::choose_ends(file, kveldrim::DESKTOP_ENTRY, b"Name", locale);
+    let plain = name(b"");
+    let own = locales
+        .iter()
+        .find(|locale| name(locale) != plain || is_plain(locale));
+    own.or(locales.first()).cloned().unwrap_or_default()
+}
+
+/// Whether a locale means the plain key.
+pub fn is_plain(locale: &[u8]) -> bool {
+    let mut parts = locale.splitn(2, |byte| *byte == b'.');
+    let name = parts.next().unwrap_or_default();
+    let rest = parts.next().unwrap_or_default();
+    matches!(name, b"" | b"C" | b"POSIX") && !rest.contains(&b'@')
+}
+
+/// Whether `get --locale` never takes a postfix that is this: it has an encoding, or means the plain key.
+pub fn is_never_chosen(postfix: &[u8]) -> bool {
+    postfix.contains(&b'.') || is_plain(postfix)
+}
+
+#[cfg(test)]
+mod tests {
+    use super::*;
+
+    fn of(variables: &[(&str, &str)]) -> Vec<String> {
+        let locales = of_environment(|name| {
+            let found = variables.iter().find(|(variable, _)| *variable == name);
+            found.map(|(_, value)| value.into())
+        });
+        locales
+            .into_iter()
+            .map(|locale| String::from_utf8(locale).unwrap())
+            .collect()
+    }
+
+    #[test]
+    fn the_first_variable_that_is_set() {
+        assert_eq!(of(&[]), [""; 0]);
+        assert_eq!(of(&[("LANG", "de_AT.UTF-8")]), ["de_AT.UTF-8"]);
+        assert_eq!(
+            of(&[("LC_ALL", ""), ("LC_MESSAGES", "fr"), ("LANG", "de")]),
+            ["fr"]
+        );
+        assert_eq!(of(&[("LC_ALL", "C"), ("LANG", "fr")]), ["C"]);
+        assert_eq!(
+            of(&[("LANGUAGE", "sv:nb::de"), ("LC_ALL", "fr")]),
+            ["sv", "nb", "de"]
+        );
+        assert_eq!(of(&[("LANGUAGE", ""), ("LC_ALL", "fr")]), ["fr"]);
+        assert_eq!(of(&[("LANGUAGE", "de utf8:fr")]), ["fr"]);
+    }
+
+    #[test]
+    fn plain_locales() {
+        for plain in ["", "C", "POSIX", "C.UTF-8", "POSIX.x"] {
+            assert!(is_plain(plain.as_bytes()), "{plain}");
+        }
+        for other in ["c", "C_DE", "C@x", "C.UTF-8@x", "de"] {
+            assert!(!is_plain(other.as_bytes()), "{other}");
+        }
+    }
+}
