@@ -138,6 +138,7 @@ fn make(
     calls: impl FnOnce(&mut Document) -> Result<Vec<Told>, Refusal>,
     refused: impl FnOnce(&[u8], Refusal) -> Trouble,
 ) -> Result<Made, Trouble> {
+    named(file)?;
     let store = match manner.dry_run {
         true => Store::look(file, discard)?,
         false => Store::edit(file, discard, manner.wait)?,
@@ -159,6 +160,16 @@ fn make(
         before,
         after: document.file().to_vec(),
     })
+}
+
+/// A journal lies beside a file, so standard input has none.
+fn named(file: &OsStr) -> Result<(), Trouble> {
+    match file == streams::STDIN {
+        true => Err(Trouble::usage(
+            "edits and their journal need a file, not standard input",
+        )),
+        false => Ok(()),
+    }
 }
 
 impl Made {
@@ -196,7 +207,8 @@ fn is_unread(key: &[u8]) -> bool {
 
 /// The edits of a file's journal, a line or an object for each.
 pub fn log(log: &Log) -> ExitCode {
-    let told = Store::look(&log.file, false).and_then(|store| {
+    let store = named(&log.file).and_then(|()| Store::look(&log.file, false));
+    let told = store.and_then(|store| {
         let document = store.document();
         let bytes = document.file().to_vec();
         edits(document).map_err(|refusal| match refusal.kind {

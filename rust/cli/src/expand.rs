@@ -49,7 +49,9 @@ pub fn trouble_of(name: &OsStr, file: &[u8]) -> Option<Trouble> {
 /// What is to be written.
 fn answer(expand: &Expand, file: &[u8]) -> Result<Vec<u8>, Trouble> {
     let locale = expand.locale.locale.as_deref().map(locale::asked);
-    let location = expand.location.as_deref().unwrap_or(&expand.file);
+    // Standard input is nowhere.
+    let own = Some(&*expand.file).filter(|file| *file != streams::STDIN);
+    let location = expand.location.as_deref().or(own).unwrap_or_default();
     let asked = Asked {
         name: &expand.file,
         file,

@@ -1,150 +1,129 @@
 //! Runs `kveldrim expand` as a user does: what it writes, what it tells, how it ends.
 
-use std::ffi::{OsStr, OsString};
-use std::fs;
-use std::os::unix::ffi::{OsStrExt, OsStringExt};
-use std::path::PathBuf;
-use std::process::{self, Command, Output};
-use std::sync::atomic::{AtomicU32, Ordering};
+mod common;
+
+use std::ffi::OsStr;
+use std::os::unix::ffi::OsStrExt;
+use std::process::Command;
+
+use common::{Folder, Outcome};
 
 const COMPOSED: &str = "M\u{FC}ller.odt";
 const DECOMPOSED: &str = "Mu\u{308}ller.odt";
 
-/// A folder of a test's own with the file `t`, removed at the end.
-struct Folder(PathBuf);
+/// A folder with the file `t`, which has this Exec, a Name and an Icon.
+fn with_exec(exec: &str) -> Folder {
+    let lines = format!("Name=Read it\nName[de]=Lies!\nIcon=book\nExec={exec}\n");
+    with_lines(lines.as_bytes())
+}
+
+fn with_lines(lines: &[u8]) -> Folder {
+    let file = [b"[Desktop Entry]\nType=Application\n", lines].concat();
+    Folder::new().with(b"t", &file)
+}
 
 impl Folder {
-    /// The file has this Exec, a Name and an Icon.
-    fn with_exec(exec: &str) -> Folder {
-        let lines = format!("Name=Read it\nName[de]=Lies!\nIcon=book\nExec={exec}\n");
-        Folder::with_lines(lines.as_bytes())
-    }
-
-    fn with_lines(lines: &[u8]) -> Folder {
-        static NUMBER: AtomicU32 = AtomicU32::new(0);
-        let number = NUMBER.fetch_add(1, Ordering::Relaxed);
-        let name = format!("kveldrim-expand-{}-{number}", process::id());
-        let folder = std::env::temp_dir().join(name);
-        fs::create_dir(&folder).unwrap();
-        let file = [b"[Desktop Entry]\nType=Application\n", lines].concat();
-        fs::write(folder.join("t"), file).unwrap();
-        Folder(folder)
-    }
-
     /// Runs `kveldrim expand` in the folder, with a German locale in the environment.
     fn expand(&self, words: &[&[u8]]) -> Outcome {
-        let words = words.iter().map(|word| OsString::from_vec(word.to_vec()));
-        let output = Command::new(env!("CARGO_BIN_EXE_kveldrim"))
-            .arg("expand")
-            .args(words)
-            .current_dir(&self.0)
-            .env_clear()
-            .env("LANG", "de_AT.UTF-8")
-            .output();
-        Outcome(output.unwrap())
-    }
-}
-
-impl Drop for Folder {
-    fn drop(&mut self) {
-        let _ = fs::remove_dir_all(&self.0);
-    }
-}
-
-struct Outcome(Output);
-
-impl Outcome {
-    fn writes(&self, expected: impl AsRef<[u8]>) {
-        assert_eq!(self.told(), "");
-        self.writes_and_tells(expected, "");
-    }
-
-    fn writes_and_tells(&self, expected: impl AsRef<[u8]>, start: &str) {
-        let (out, expected) = (
-            self.0.stdout.escape_ascii(),
-            expected.as_ref().escape_ascii(),
-        );
-        assert_eq!(out.to_string(), expected.to_string());
-        assert!(self.told().starts_with(start), "{}", self.told());
-        assert_eq!(self.0.status.code(), Some(0));
-    }
-
-    /// Nothing is written; one line is told, which starts so.
-    fn tells(&self, status: i32, start: &str) {
-        assert!(self.told().starts_with(start), "{}", self.told());
-        assert_eq!(self.told().lines().count(), 1);
-        assert_eq!(self.0.stdout.escape_ascii().to_string(), "");
-        assert_eq!(self.0.status.code(), Some(status));
-    }
-
-    fn told(&self) -> String {
-        String::from_utf8_lossy(&self.0.stderr).into_owned()
+        let words = [&[&b"expand"[..]], words].concat();
+        self.run_in(&[("LANG", "de_AT.UTF-8")], &words)
     }
 }
 
 #[test]
-fn each_argument_has_its_line() {
-    let folder = Folder::with_exec("view --x=1 %F");
-    folder.expand(&[b"t"]).writes("view\n--x=1\n");
+fn a_run_is_a_line() {
+    let folder = with_exec("view --x=1 %F");
+    folder.expand(&[b"t"]).writes(b"view --x=1\n");
     let items: [&[u8]; 5] = [b"t", b"a b.txt", b"c%f.txt", b"it's", b"\xFF"];
-    let lines = b"view\n--x=1\n'a b.txt'\nc%f.txt\n'it'\\''s'\n'\xFF'\n";
-    folder.expand(&items).writes(lines);
+    folder
+        .expand(&items)
+        .writes(b"view --x=1 'a b.txt' c%f.txt 'it'\\''s' '\xFF'\n");
     folder
         .expand(&[b"--null", b"t", b"a b", b"it's"])
-        .writes("view\0--x=1\0a b\0it's\0");
+        .writes(b"view\0--x=1\0a b\0it's\0");
     folder
-        .expand(&[b"t", b"--", b"-x", b"--null", b"--"])
-        .writes("view\n--x=1\n-x\n--null\n--\n");
+        .expand(&[b"t", b"--", b"-x", b"--null", b"--", b"=ls", b"~"])
+        .writes(b"view --x=1 -x --null -- '=ls' '~'\n");
 }
 
 /// Two pupils' files that look alike on a screen keep their own bytes.
 #[test]
 fn pupils_files_are_not_mixed_up() {
     let names = [COMPOSED.as_bytes(), DECOMPOSED.as_bytes()];
-    let folder = Folder::with_exec("view %F");
-    folder
+    with_exec("view %F")
         .expand(&[b"--null", b"t", names[0], names[1]])
-        .writes(format!("view\0{COMPOSED}\0{DECOMPOSED}\0"));
-    let folder = Folder::with_exec("view %f");
-    folder
+        .writes(format!("view\0{COMPOSED}\0{DECOMPOSED}\0").as_bytes());
+    with_exec("view %f")
         .expand(&[b"--all", b"t", names[0], names[1]])
-        .writes(format!("view\n'{COMPOSED}'\n\nview\n'{DECOMPOSED}'\n"));
+        .writes(format!("view '{COMPOSED}'\nview '{DECOMPOSED}'\n").as_bytes());
 }
 
 #[test]
 fn runs_are_numbered_from_0() {
-    let folder = Folder::with_exec("view %f");
+    let folder = with_exec("view %f");
     let first = folder.expand(&[b"t", b"a", b"b"]);
-    first.writes_and_tells("view\na\n", "t: this is run 0 of 2;");
+    assert_eq!((first.status, &first.out[..]), (0, &b"view a\n"[..]));
+    assert!(first.told.starts_with(b"t: this is run 0 of 2;"));
     folder
         .expand(&[b"--run=0", b"t", b"a", b"b"])
-        .writes("view\na\n");
+        .writes(b"view a\n");
     folder
         .expand(&[b"t", b"a", b"b", b"--run", b"1"])
-        .writes("view\nb\n");
+        .writes(b"view b\n");
     folder
         .expand(&[b"--run", b"2", b"t", b"a", b"b"])
-        .tells(1, "t: there is no such run; the last is 1");
+        .tells(1, &["t: there is no such run; the last is 1"]);
     folder
-        .expand(&[b"--all", b"--null", b"t", b"a", b"b"])
-        .writes("view\0a\0\0view\0b\0");
-    folder.expand(&[b"--runs", b"t", b"a", b"b"]).writes("2\n");
-    folder.expand(&[b"--runs", b"t"]).writes("1\n");
-    folder.expand(&[b"--all", b"t"]).writes("view\n");
-    let folder = Folder::with_exec("view %U");
-    folder.expand(&[b"--runs", b"t", b"a", b"b"]).writes("1\n");
+        .expand(&[b"--all", b"t", b"a b", b"b"])
+        .writes(b"view 'a b'\nview b\n");
+    folder.expand(&[b"--runs", b"t", b"a", b"b"]).writes(b"2\n");
+    folder.expand(&[b"--runs", b"t"]).writes(b"1\n");
+    folder.expand(&[b"--all", b"t"]).writes(b"view\n");
+    let folder = with_exec("view %U");
+    folder.expand(&[b"--runs", b"t", b"a", b"b"]).writes(b"1\n");
     folder
         .expand(&[b"--run=1", b"t", b"a", b"b"])
-        .tells(1, "t: there is no such run; there is only run 0");
+        .tells(1, &["t: there is no such run; there is only run 0"]);
+}
+
+/// An empty argument would look like a run's end, so zero bytes are for one run alone.
+#[test]
+fn zero_bytes_are_for_one_run() {
+    let folder = with_exec("view \"\" %f");
+    folder
+        .expand(&[b"--null", b"--run=1", b"t", b"a", b"b"])
+        .writes(b"view\0\0b\0");
+    let both = folder.expand(&[b"--null", b"--all", b"t", b"a", b"b"]);
+    assert_eq!((both.status, both.out.len()), (2, 0));
+    let help = folder.expand(&[b"--help"]);
+    let words = String::from_utf8(help.out).unwrap();
+    assert!(
+        words.contains("not with --all: ask for each by --run N"),
+        "{words}"
+    );
+}
+
+#[test]
+fn objects() {
+    let folder = with_exec("view %f");
+    folder
+        .expand(&[b"--json", b"--all", b"t", b"a \"b", b"\xFF"])
+        .writes(
+            b"{\"arguments\":[\"view\",\"a \\\"b\"],\"run\":0}\n\
+            {\"arguments\":[\"view\",{\"hex\":\"ff\"}],\"run\":1}\n",
+        );
+    folder
+        .expand(&[b"--json", b"--runs", b"t"])
+        .writes(b"{\"runs\":1}\n");
 }
 
 #[test]
 fn name_icon_and_location() {
-    let folder = Folder::with_exec("view %i %c %k");
+    let folder = with_exec("view %i %c %k");
     folder
         .expand(&[b"t"])
-        .writes("view\n--icon\nbook\n'Read it'\nt\n");
-    let german = "view\n--icon\nbook\n'Lies!'\n/a\n";
+        .writes(b"view --icon book 'Read it' t\n");
+    let german = b"view --icon book 'Lies!' /a\n";
     folder
         .expand(&[b"--locale", b"de", b"--location=/a", b"t"])
         .writes(german);
@@ -153,116 +132,160 @@ fn name_icon_and_location() {
         .writes(german);
     folder
         .expand(&[b"--location=", b"t"])
-        .writes("view\n--icon\nbook\n'Read it'\n''\n");
+        .writes(b"view --icon book 'Read it' ''\n");
+    // Of a list the first is taken that has a Name of its own.
+    folder
+        .run_in(
+            &[("LANGUAGE", "sv:de:fr"), ("LANG", "fr")],
+            &[b"expand", b"--locale=auto", b"--location=/a", b"t"],
+        )
+        .writes(german);
 }
 
-/// A shell reads each line as the one argument that it stands for.
+/// Each shell reads a pasted line as the arguments that it stands for.
 #[test]
-fn lines_can_be_pasted_into_a_shell() {
-    let folder = Folder::with_exec("%% %f");
-    let items: [&[u8]; 14] = [
+fn lines_can_be_pasted_into_dash_bash_and_zsh() {
+    let folder = with_exec("printf \"[%%s]\" %F");
+    let items: &[&[u8]] = &[
         b"a b",
         b"it's",
         b"'",
         b"''x",
+        b"x''",
         b"$HOME",
         b"`ls`",
         b"a\nb",
         b"~",
+        b"~root",
         b"*",
         b"\\",
         b"if",
+        b"repeat",
         b"#x",
         b"!!",
+        b"=ls",
+        b"=",
+        b"a=~",
+        b"{a,b}",
+        b"[a]",
+        b"^x",
+        b"a;b",
+        b"&",
+        b"-n",
+        b"%",
+        b"a\tb",
         b"\xFF\xFE",
     ];
-    for item in items {
-        let out = folder.expand(&[b"t", item]).0.stdout;
-        let line = out.strip_prefix(b"%\n").unwrap();
-        let script = [b"printf '[%s]' ", line].concat();
-        let read = Command::new("/bin/sh")
+    let line = folder.expand(&[&[&b"t"[..], b"--"], items].concat());
+    let expected: Vec<u8> = items
+        .iter()
+        .flat_map(|item| [b"[", *item, b"]"].concat())
+        .collect();
+    for shell in [
+        &["dash"][..],
+        &["bash"],
+        &["zsh", "-f"],
+        &["zsh", "-f", "-o", "extendedglob"],
+    ] {
+        let read = Command::new(shell[0])
+            .args(&shell[1..])
             .arg("-c")
-            .arg(OsStr::from_bytes(&script))
+            .arg(OsStr::from_bytes(&line.out))
             .output()
-            .unwrap();
-        assert_eq!(read.stdout, [b"[", item, b"]"].concat());
+            .unwrap_or_else(|error| panic!("Debian's package {} is needed: {error}", shell[0]));
+        let (out, expected) = (read.stdout.escape_ascii(), expected.escape_ascii());
+        assert_eq!(out.to_string(), expected.to_string(), "{shell:?}");
+    }
+}
+
+/// A program whose name is a word of a shell's own is run as a program.
+#[test]
+fn keywords_are_quoted() {
+    for word in ["if", "time", "repeat", "foreach", "end", "coproc"] {
+        with_exec(word)
+            .expand(&[b"t"])
+            .writes(format!("'{word}'\n").as_bytes());
     }
 }
 
 #[test]
 fn faults_are_told_at_their_byte() {
-    let of = |exec: &str| Folder::with_exec(exec).expand(&[b"t", b"a"]);
-    of("view \"%f\"").tells(1, "t:6:12: wrong field code");
-    of("view %f %u").tells(1, "t:6:14: wrong field code");
-    of("view\\s\\s$").tells(1, "t:6:14: Exec is badly written");
-    of("").tells(1, "t:6:6: Exec is badly written");
-    of("view \\q").tells(1, "t:6:11: unknown or unfinished escape");
-    let name = Folder::with_lines(b"Exec=view %c\nName=a\\q\n");
-    name.expand(&[b"t"])
-        .tells(1, "t:4:7: unknown or unfinished");
-    let icon = Folder::with_lines(b"Exec=view %i\nName=\\q\nIcon=a\\q\n");
-    icon.expand(&[b"t"])
-        .tells(1, "t:5:7: unknown or unfinished");
+    let of = |exec: &str| with_exec(exec).expand(&[b"t", b"a"]);
+    of("view \"%f\"").tells(1, &["t:6:12: "]);
+    of("view %f %u").tells(1, &["t:6:14: "]);
+    of("view\\s\\s$").tells(1, &["t:6:14: "]);
+    of("").tells(1, &["t:6:6: "]);
+    of("view \\q").tells(1, &["t:6:11: "]);
+    with_lines(b"Exec=view %c\nName=a\\q\n")
+        .expand(&[b"t"])
+        .tells(1, &["t:4:7: "]);
+    with_lines(b"Exec=view %i\nName=\\q\nIcon=a\\q\n")
+        .expand(&[b"t"])
+        .tells(1, &["t:5:7: "]);
 }
 
 #[test]
 fn refusals_are_told_in_words() {
-    let folder = Folder::with_exec("view %f");
+    let folder = with_exec("view %f");
     let long = [b'l'; 4_097];
-    folder
-        .expand(&[b"--location", &long, b"t"])
-        .tells(1, "t: the name of a file to open is empty, or the location");
+    folder.expand(&[b"--location", &long, b"t"]).tells(
+        1,
+        &["t: the name of a file to open is empty, or the location"],
+    );
     folder
         .expand(&[b"t", b""])
-        .tells(1, "t: the name of a file");
-    folder
-        .expand(&[b"t", &[b'i'; 65_531]])
-        .tells(1, "t: the names of the files to open are over 65,536 bytes");
+        .tells(1, &["t: the name of a file"]);
+    folder.expand(&[b"t", &[b'i'; 65_531]]).tells(
+        1,
+        &["t: the names of the files to open are over 65,536 bytes"],
+    );
     folder
         .expand(&[b"--locale=_", b"t"])
-        .tells(1, "t: the locale is not well written");
-    let none = Folder::with_lines(b"Name=a\n");
-    none.expand(&[b"t"]).tells(1, "t: there is no key Exec");
-    let none = Folder::with_lines(b"Exec=view %c\n");
-    none.expand(&[b"--all", b"t"])
-        .tells(1, "t: there is no key Name");
-    let bad = Folder::with_lines(b"x\n");
-    bad.expand(&[b"--runs", b"t"])
-        .tells(1, "t:3:2: this line is not blank");
+        .tells(1, &["t: the locale is not well written"]);
+    with_lines(b"Name=a\n")
+        .expand(&[b"t"])
+        .tells(1, &["t: there is no key Exec"]);
+    with_lines(b"Exec=view %c\n")
+        .expand(&[b"--all", b"t"])
+        .tells(1, &["t: there is no key Name"]);
+    with_lines(b"x\n")
+        .expand(&[b"--runs", b"t"])
+        .tells(1, &["t:3:2: "]);
+    folder
+        .expand(&[b"absent"])
+        .tells(2, &["absent: cannot be read"]);
+}
+
+#[test]
+fn standard_input() {
+    let folder = with_exec("view %k %f");
+    let mut command = Command::new("sh");
+    let script = "exec \"$0\" \"$@\" < t";
+    command.args(["-c", script, env!("CARGO_BIN_EXE_kveldrim")]);
+    folder
+        .run_by(command, &[b"expand", b"-", b"a"])
+        .writes(b"view '' a\n");
 }
 
 #[test]
 fn wrong_usage() {
-    let folder = Folder::with_exec("view %f");
-    let usage = |words: &[&[u8]], start: &str| folder.expand(words).tells(2, start);
-    usage(&[], "kveldrim: expand needs the name of a file");
-    usage(&[b"--raw", b"t"], "kveldrim: expand has no option --raw");
-    usage(
+    let folder = with_exec("view %f");
+    let wrong: &[&[&[u8]]] = &[
+        &[],
+        &[b"--raw", b"t"],
         &[b"--all=1", b"t"],
-        "kveldrim: expand has no option --all=1",
-    );
-    usage(&[b"t", b"--run"], "kveldrim: --run needs a word after it");
-    usage(&[b"t", b"--run=x"], "kveldrim: --run needs a number");
-    usage(&[b"t", b"--run=+1"], "kveldrim: --run needs a number");
-    usage(&[b"t", b"--run="], "kveldrim: --run needs a number");
-    usage(
+        &[b"t", b"--run"],
+        &[b"t", b"--run=x"],
+        &[b"t", b"--run=-1"],
+        &[b"t", b"--run="],
         &[b"t", b"--run=1", b"--run=1"],
-        "kveldrim: --run stands twice",
-    );
-    usage(
         &[b"t", b"--run=1", b"--all"],
-        "kveldrim: --run and --all do not",
-    );
-    usage(
         &[b"t", b"--runs", b"--null"],
-        "kveldrim: --runs goes with neither",
-    );
-    usage(&[b"absent"], "absent: cannot be read");
-    let late = Command::new(env!("CARGO_BIN_EXE_kveldrim"))
-        .args(["--locale=de", "expand", "t"])
-        .output();
-    Outcome(late.unwrap()).tells(2, "kveldrim: expand must stand before its options");
-    let help = folder.expand(&[b"--help"]);
-    assert!(help.0.stdout.starts_with(b"Checks .desktop files"));
-    assert_eq!(help.0.status.code(), Some(0));
+        &[b"t", b"--json", b"--null"],
+    ];
+    for words in wrong {
+        let outcome = folder.expand(words);
+        assert_eq!((outcome.status, outcome.out.len()), (2, 0), "{words:?}");
+        assert!(outcome.told.starts_with(b"error: "), "{words:?}");
+    }
 }
