@@ -60,12 +60,15 @@ look_for_cargo() {
     [ -n "$cargo" ]
 }
 
-# Finds a cargo that is new enough, or installs Debian's: Debian 12 has one under another name than `cargo`, which is too old.
+# Finds a cargo that is new enough, or installs Debian's.
 find_cargo() {
     if look_for_cargo; then return 0; fi
-    for package in cargo-web cargo; do
-        if install_packages "$package" && look_for_cargo; then return 0; fi
-    done
+    # In Debian 12 the package `cargo` is too old, and there is a newer one.
+    case $(sed -n 's/^VERSION_ID=//p' /etc/os-release) in
+    '"12"') package=cargo-web ;;
+    *) package=cargo ;;
+    esac
+    if install_packages "$package" && look_for_cargo; then return 0; fi
     have=$(cargo --version 2>/dev/null || echo "there is no cargo")
     fail "$have: cargo 1.85 or newer is needed (Debian 13: package cargo, Debian 12: package cargo-web)"
 }

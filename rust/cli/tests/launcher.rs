@@ -12,7 +12,7 @@ use std::time::{Duration, SystemTime};
 use common::{Folder, Outcome};
 
 /// The tools of Debian that the script uses.
-const TOOLS: [&str; 14] = [
+const TOOLS: [&str; 15] = [
     "cat",
     "dpkg-query",
     "find",
@@ -23,6 +23,7 @@ const TOOLS: [&str; 14] = [
     "mv",
     "readlink",
     "rm",
+    "sed",
     "sh",
     "tail",
     "touch",
@@ -209,7 +210,7 @@ fn a_cargo_that_is_too_old_is_told_in_one_line() {
     // A word about each package comes first.
     let installs = checkout.called().contains("apt-get");
     assert_eq!(
-        told.contains("installing Debian's packages cargo-web"),
+        told.contains("installing Debian's packages cargo"),
         installs,
         "{told}"
     );
