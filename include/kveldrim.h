@@ -21,7 +21,7 @@
  * - No call allocates memory, keeps anything or waits; calls may run in several threads at once. 64 KiB of stack are
  *   enough for each, but kveldrim_expand takes up to 160 KiB.
  *
- * Example
+ * Example: a lookup
  *
  *     uint64_t place, byte, from, to;
  *     uint32_t refused = kveldrim_lookup(file, file_len,
@@ -32,11 +32,12 @@
  *     else if (refused == KVELDRIM_BAD_LINE)
  *         fprintf(stderr, "line %llu is bad after %llu bytes\n", (unsigned long long) place, (unsigned long long) byte);
  *     else
- *         fprintf(stderr, "refused: %u at %llu\n", (unsigned) refused, (unsigned long long) place);
+ *         fprintf(stderr, "refused: %s\n", kveldrim_words(refused));
  *
  * Refusals
  *
- * A line counts from 1, an offset and a byte in a line from 0. Where a place is not named it is 0.
+ * A line counts from 1, an offset and a byte in a line from 0. Where a place is not named it is 0. kveldrim_words, in
+ * kveldrim_words.h, gives the words of each number.
  *
  *     number                   given when                                                         place              byte
  *      1  KVELDRIM_TOO_LONG     the file is over 32,768 bytes                                      0                  0
@@ -107,7 +108,11 @@
  *  - An undo and a redo change no byte of the journal, and of the numbers only *file_len and *standing.
  *  - A file that shrinks has zeros up to its old length. Bytes behind both lengths stay as they were.
  *
- *     static uint8_t file[KVELDRIM_FILE_BOUND], journal[KVELDRIM_JOURNAL_BOUND];
+ * Example: an edit and its undo
+ *
+ * One byte more than a file may have is read, so that a longer file is refused (1) and not cut.
+ *
+ *     static uint8_t file[KVELDRIM_FILE_BOUND + 1], journal[KVELDRIM_JOURNAL_BOUND];
  *     uint64_t file_len = fread(file, 1, sizeof file, stdin), used = 0, standing = 0, place, byte;
  *     uint32_t refused = kveldrim_set(file, sizeof file, &file_len, journal, sizeof journal, &used, &standing,
  *                                     (const uint8_t *) "Desktop Entry", 13, (const uint8_t *) "Name", 4,

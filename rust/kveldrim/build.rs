@@ -19,6 +19,8 @@ fn main() {
         eprintln!("or name the folder that has it in the environment variable KVELDRIM_LIB.");
         exit(1);
     }
+    // For the tests that link it with C.
+    println!("cargo:rustc-env=KVELDRIM_ARCHIVE={}", library.display());
     println!("cargo:rustc-link-search=native={}", folder.display());
     println!("cargo:rustc-link-lib=static=kveldrim");
 }

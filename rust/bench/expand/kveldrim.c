@@ -1,5 +1,5 @@
 /* Times one expansion of an entry for two files by the proved library: the median of many rounds. Argument: the entry's file. */
-#include "kveldrim.h"
+#include "kveldrim_words.h"
 
 #include <stdio.h>
 #include <stdlib.h>
@@ -31,7 +31,8 @@ static size_t add(uint8_t *list, size_t at, const char *name) {
 }
 
 int main(int argc, char **argv) {
-    uint8_t file[KVELDRIM_FILE_BOUND], list[256], out[1024];
+    /* One byte more than a file may have, so that a longer one is refused and not cut. */
+    uint8_t file[KVELDRIM_FILE_BOUND + 1], list[256], out[1024];
     FILE *entry = argc == 2 ? fopen(argv[1], "rb") : NULL;
     if (!entry) {
         fprintf(stderr, "usage: kveldrim FILE\n");
@@ -48,7 +49,7 @@ int main(int argc, char **argv) {
             uint32_t code = kveldrim_expand(file, size, (const uint8_t *)"de", 2, (const uint8_t *)"", 0,
                                             list, listed, 0, out, sizeof out, &place, &byte, &written);
             if (code) {
-                fprintf(stderr, "refused %u at %lu\n", code, (unsigned long)place);
+                fprintf(stderr, "refused: %s, place %lu\n", kveldrim_words(code), (unsigned long)place);
                 return 1;
             }
         }

@@ -8,14 +8,12 @@ use std::env;
 use crate::calls::{Asker, Case, Tally};
 use crate::random::{mix, Random};
 
-/// Compares `cases` cases that `make` makes, and panics at the first difference. Each of the named outcomes (a call and
-/// its number, 0 for an answer) must come up, so that a test cannot grow empty unseen. Answers how many calls were made.
-pub fn run(
-    test: &str,
-    cases: u64,
-    outcomes: &[(&'static str, &[u32])],
-    make: impl Fn(&mut Random) -> Case,
-) -> u64 {
+/// Calls, each with numbers that it gives, 0 for an answer.
+pub type Outcomes<'a> = &'a [(&'static str, &'a [u32])];
+
+/// Compares `cases` cases that `make` makes, and panics at the first difference. Each of the outcomes must come up. Answers
+/// how many calls were made.
+pub fn run(test: &str, cases: u64, outcomes: Outcomes, make: impl Fn(&mut Random) -> Case) -> u64 {
     let mut asker = Asker::new(0);
     if let Some(seed) = number("KVELDRIM_REPLAY") {
         one(test, seed, &make, &mut asker);
@@ -27,13 +25,19 @@ pub fn run(
         one(test, mix(family, case), &make, &mut asker);
     }
     println!("{test}: {cases} inputs, {}", words(&asker.tally));
+    came_up(test, &asker.tally, outcomes);
+    calls(&asker.tally)
+}
+
+/// Asks that each of these outcomes, at least one, came up: so no test can grow empty unseen.
+pub fn came_up(test: &str, tally: &Tally, outcomes: Outcomes) {
+    assert!(!outcomes.is_empty(), "{test}: no outcome is named");
     for (call, numbers) in outcomes {
         for number in *numbers {
-            let found = asker.tally.contains_key(&(*call, *number));
+            let found = tally.contains_key(&(*call, *number));
             assert!(found, "{test}: {call} never gave {number}");
         }
     }
-    calls(&asker.tally)
 }
 
 fn calls(tally: &Tally) -> u64 {

@@ -69,6 +69,7 @@ fn each_definition_of_the_architecture_is_in_its_file() {
             let file = file.rsplit(' ').next().unwrap();
             let path = format!("crates/{directory}/specs/{file}.antt");
             let text = read(&path);
+            assert!(!quoted(names).is_empty(), "{place}");
             for name in quoted(names) {
                 let defined = ["", "record ", "data "].iter().any(|kind| {
                     [" :", " (", " {"]

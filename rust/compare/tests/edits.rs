@@ -4,7 +4,7 @@
 use compare::calls::{Asker, Case};
 use compare::edits::{Call, Kind, List};
 use compare::random::Random;
-use compare::run::run;
+use compare::run::{came_up, run, Outcomes};
 use compare::{files, lists};
 
 const SOUND: u64 = 60_000;
@@ -17,15 +17,17 @@ const NEAR_JOURNAL_BOUND: u64 = 400;
 
 const _: () = assert!(SOUND + SPOILT + DAMAGED + FOREIGN >= 50_000);
 
+/// What calls from a sound start give.
+const FROM_SOUND: Outcomes = &[
+    ("set", &[0, 6, 7, 8, 10, 11, 13]),
+    ("remove", &[0, 7, 8, 13, 17]),
+    ("undo", &[0, 12]),
+    ("redo", &[0, 12]),
+];
+
 #[test]
 fn sound_starts() {
-    let outcomes: &[(_, &[u32])] = &[
-        ("set", &[0, 6, 7, 8, 10, 11, 13]),
-        ("remove", &[0, 7, 8, 13, 17]),
-        ("undo", &[0, 12]),
-        ("redo", &[0, 12]),
-    ];
-    run("sound_starts", SOUND, outcomes, |random| {
+    run("sound_starts", SOUND, FROM_SOUND, |random| {
         let file = files::sound(random, 3, 4);
         Case::Edits(lists::started(&file, 12, random))
     });
@@ -34,7 +36,7 @@ fn sound_starts() {
 #[test]
 fn spoilt_starts() {
     let file: &[u32] = &[0, 2, 3, 4, 5, 6];
-    let outcomes: &[(_, &[u32])] = &[
+    let outcomes: Outcomes = &[
         ("set", file),
         ("remove", file),
         ("undo", file),
@@ -49,7 +51,7 @@ fn spoilt_starts() {
 
 #[test]
 fn damaged_journals_and_wrong_numbers() {
-    let outcomes: &[(_, &[u32])] = &[
+    let outcomes: Outcomes = &[
         ("set", &[0, 2, 8, 11, 13, 14]),
         ("remove", &[0, 2, 8, 13, 14]),
         ("undo", &[0, 2, 12, 14]),
@@ -61,13 +63,13 @@ fn damaged_journals_and_wrong_numbers() {
 
 #[test]
 fn foreign_journals() {
-    let outcomes: &[(_, &[u32])] = &[("undo", &[0, 11, 12, 14]), ("redo", &[0, 11, 12, 14])];
+    let outcomes: Outcomes = &[("undo", &[0, 11, 12, 14]), ("redo", &[0, 11, 12, 14])];
     run("foreign_journals", FOREIGN, outcomes, lists::foreign);
 }
 
 #[test]
 fn longer_starts() {
-    run("longer_starts", LONGER, &[], |random| {
+    run("longer_starts", LONGER, FROM_SOUND, |random| {
         let file = files::sound(random, 20, 30);
         Case::Edits(lists::started(&file, 12, random))
     });
@@ -75,14 +77,14 @@ fn longer_starts() {
 
 #[test]
 fn files_near_the_bound() {
-    let outcomes: &[(_, &[u32])] = &[("set", &[0, 1, 11]), ("undo", &[0])];
+    let outcomes: Outcomes = &[("set", &[0, 1, 11]), ("undo", &[0])];
     let test = "files_near_the_bound";
     run(test, NEAR_FILE_BOUND, outcomes, lists::near_file_bound);
 }
 
 #[test]
 fn journals_near_the_bound() {
-    let outcomes: &[(_, &[u32])] = &[("set", &[0, 13]), ("undo", &[0]), ("redo", &[0, 12])];
+    let outcomes: Outcomes = &[("set", &[0, 13]), ("undo", &[0]), ("redo", &[0, 12])];
     let test = "journals_near_the_bound";
     run(
         test,
@@ -122,15 +124,8 @@ fn buffers_of_every_size() {
             }
         }
     }
-    for outcome in [
-        ("set", 0),
-        ("set", 11),
-        ("set", 13),
-        ("remove", 0),
-        ("remove", 13),
-    ] {
-        assert!(asker.tally.contains_key(&outcome), "{outcome:?}");
-    }
+    let outcomes: Outcomes = &[("set", &[0, 11, 13]), ("remove", &[0, 13])];
+    came_up("buffers_of_every_size", &asker.tally, outcomes);
 }
 
 /// What the reference tells of each call from an empty journal on, once all agree on it.
@@ -205,7 +200,7 @@ fn the_bound_of_a_journal() {
 #[test]
 #[ignore = "run it where edits are changed"]
 fn half_a_million_calls() {
-    let calls = run("half_a_million_calls", 24_000, &[], |random| {
+    let calls = run("half_a_million_calls", 24_000, FROM_SOUND, |random| {
         let file = files::sound(random, 4, 6);
         Case::Edits(lists::started(&file, 42, random))
     });

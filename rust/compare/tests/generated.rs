@@ -3,7 +3,7 @@
 use compare::calls::{Asker, Case};
 use compare::files;
 use compare::pieces::{self, BORDERS, UTF8_BORDERS};
-use compare::run::run;
+use compare::run::{came_up, run, Outcomes};
 
 const SOUND: u64 = 60_000;
 const SPOILT: u64 = 120_000;
@@ -21,7 +21,7 @@ const LONG_TEXTS: u64 = 300;
 
 const _: () = assert!(SOUND + SPOILT + LINES + WILD + COMPLETE + LANGUAGES + TEXTS >= 200_000);
 
-const OUTPUTS: &[(&str, &[u32])] = &[
+const OUTPUTS: Outcomes = &[
     ("read_text", &[0, 9, 11]),
     ("write_text", &[0, 10, 11]),
     ("read_list", &[0, 9, 11]),
@@ -29,7 +29,7 @@ const OUTPUTS: &[(&str, &[u32])] = &[
 
 #[test]
 fn sound_files() {
-    let outcomes: &[(_, &[u32])] = &[
+    let outcomes: Outcomes = &[
         ("check", &[0]),
         ("complete", &[0, 18]),
         ("lookup", &[0, 7, 8]),
@@ -43,7 +43,7 @@ fn sound_files() {
 
 #[test]
 fn spoilt_files() {
-    let outcomes: &[(_, &[u32])] = &[
+    let outcomes: Outcomes = &[
         ("check", &[0, 2, 3, 4, 5, 6]),
         ("complete", &[0, 2, 3, 4, 5, 6, 18]),
         ("lookup", &[0, 2, 3, 4, 5, 6, 7, 8]),
@@ -60,7 +60,7 @@ fn spoilt_files() {
 
 #[test]
 fn lines_of_all_kinds() {
-    let outcomes: &[(_, &[u32])] = &[("check", &[0, 2, 3, 4, 5, 6])];
+    let outcomes: Outcomes = &[("check", &[0, 2, 3, 4, 5, 6])];
     run("lines_of_all_kinds", LINES, outcomes, |random| {
         let file = files::lines(random);
         files::asked(file, 1, random)
@@ -69,7 +69,7 @@ fn lines_of_all_kinds() {
 
 #[test]
 fn wild_files() {
-    let outcomes: &[(_, &[u32])] = &[("check", &[0, 2, 3])];
+    let outcomes: Outcomes = &[("check", &[0, 2, 3])];
     run("wild_files", WILD, outcomes, |random| {
         let mut file = pieces::wild(random, 60);
         if random.once_in(2) {
@@ -81,7 +81,7 @@ fn wild_files() {
 
 #[test]
 fn nearly_complete_files() {
-    let outcomes: &[(_, &[u32])] = &[("complete", &[0, 2, 3, 5, 6, 18])];
+    let outcomes: Outcomes = &[("complete", &[0, 2, 3, 5, 6, 18])];
     run("nearly_complete_files", COMPLETE, outcomes, |random| {
         let mut file = files::nearly_complete(random);
         if random.once_in(4) {
@@ -93,7 +93,7 @@ fn nearly_complete_files() {
 
 #[test]
 fn languages() {
-    let outcomes: &[(_, &[u32])] = &[("lookup", &[0, 7, 8]), ("choose", &[0, 7, 8])];
+    let outcomes: Outcomes = &[("lookup", &[0, 7, 8]), ("choose", &[0, 7, 8])];
     run("languages", LANGUAGES, outcomes, |random| {
         let file = files::many_languages(random);
         files::asked(file, 4, random)
@@ -102,7 +102,7 @@ fn languages() {
 
 #[test]
 fn longer_files() {
-    let outcomes: &[(_, &[u32])] = &[("check", &[0, 2, 5, 6]), ("lookup", &[0, 8])];
+    let outcomes: Outcomes = &[("check", &[0, 2, 5, 6]), ("lookup", &[0, 8])];
     run("longer_files", LONGER, outcomes, |random| {
         let mut file = files::sound(random, 30, 40);
         if random.once_in(2) {
@@ -114,7 +114,7 @@ fn longer_files() {
 
 #[test]
 fn hundreds_of_names() {
-    let outcomes: &[(_, &[u32])] = &[("check", &[0, 4, 5, 6]), ("lookup", &[0, 8])];
+    let outcomes: Outcomes = &[("check", &[0, 4, 5, 6]), ("lookup", &[0, 8])];
     run("hundreds_of_names", HUNDREDS, outcomes, |random| {
         let file = files::many_names(random, 4_000);
         files::asked(file, 2, random)
@@ -123,7 +123,7 @@ fn hundreds_of_names() {
 
 #[test]
 fn thousands_of_names() {
-    let outcomes: &[(_, &[u32])] = &[("check", &[0, 4, 5, 6]), ("lookup", &[0])];
+    let outcomes: Outcomes = &[("check", &[0, 4, 5, 6]), ("lookup", &[0])];
     run("thousands_of_names", THOUSANDS, outcomes, |random| {
         let file = files::many_names(random, 32_768);
         files::asked(file, 1, random)
@@ -132,7 +132,7 @@ fn thousands_of_names() {
 
 #[test]
 fn files_near_the_bound() {
-    let outcomes: &[(_, &[u32])] = &[("check", &[0, 1, 2]), ("lookup", &[0, 1])];
+    let outcomes: Outcomes = &[("check", &[0, 1, 2]), ("lookup", &[0, 1])];
     run("files_near_the_bound", NEAR_BOUND, outcomes, |random| {
         let file = files::near_bound(random);
         files::asked(file, 2, random)
@@ -141,7 +141,7 @@ fn files_near_the_bound() {
 
 #[test]
 fn long_names() {
-    let outcomes: &[(_, &[u32])] = &[
+    let outcomes: Outcomes = &[
         ("check", &[0, 1, 5]),
         ("lookup", &[0, 7, 8]),
         ("choose", &[0, 7, 8]),
@@ -177,6 +177,8 @@ fn utf8_borders() {
             panic!("{}: {difference}", bytes.escape_ascii());
         }
     }
+    let outcomes: Outcomes = &[("write_text", &[0, 10, 11]), ("check", &[0, 2])];
+    came_up("utf8_borders", &asker.tally, outcomes);
 }
 
 /// The bytes that decide what a line is, and where it goes wrong.
@@ -237,4 +239,6 @@ fn borders_in_runs() {
             }
         }
     }
+    came_up("borders_in_runs", &asker.tally, OUTPUTS);
+    came_up("borders_in_runs", &asker.tally, &[("check", &[0, 2])]);
 }

@@ -10,15 +10,13 @@ use reference::Refusal;
 
 #[test]
 fn a_changed_byte_in_a_buffer_or_beside_it() {
-    for length in [0_usize, 1, 100] {
+    assert!(Lent::output(0, &mut Random::new(7)).holds(b"").is_ok());
+    for length in [1_usize, 100] {
         for away in [-1, 0, length as isize - 1, length as isize] {
             let mut random = Random::new(7);
             let mut lent = Lent::output(length, &mut random);
             let expected = lent.bytes().to_vec();
             assert!(lent.holds(&expected).is_ok());
-            if length == 0 {
-                continue;
-            }
             // SAFETY: the byte is in the buffer or in its guards.
             unsafe { *lent.pointer_mut().offset(away) ^= 1 };
             assert!(lent.holds(&expected).is_err(), "{length} {away}");

@@ -1,42 +1,65 @@
-//! Real .desktop files, whole and spoilt: those of KVELDRIM_DESKTOP (a folder), else of /usr/share/applications.
+//! Real .desktop files, whole and spoilt: those of the folder KVELDRIM_DESKTOP, else of target/real-files at the repository's top
+//! (the script `real-files` puts them there), else of /usr/share/applications.
 
+use std::path::{Path, PathBuf};
 use std::{env, fs};
 
 use compare::calls::Case;
 use compare::random::Random;
-use compare::run::run;
+use compare::run::{run, Outcomes};
 use compare::{expand, files, lists};
 use reference::lines::{read_line, split_lines, Line};
 
-/// The files of the folder; none if there is no such folder.
-fn real_files() -> Vec<Vec<u8>> {
-    let folder = env::var_os("KVELDRIM_DESKTOP").unwrap_or("/usr/share/applications".into());
-    let Ok(entries) = fs::read_dir(folder) else {
-        return Vec::new();
-    };
-    let mut paths: Vec<_> = entries
-        .filter_map(|entry| Some(entry.ok()?.path()))
-        .filter(|path| path.extension().is_some_and(|end| end == "desktop"))
-        .collect();
-    paths.sort();
-    paths
-        .iter()
-        .filter_map(|path| fs::read(path).ok())
-        .collect()
+/// Fewer files are not worth a test.
+const LEAST: usize = 30;
+
+fn folder() -> PathBuf {
+    let fetched = Path::new(env!("CARGO_MANIFEST_DIR")).join("../../target/real-files");
+    match env::var_os("KVELDRIM_DESKTOP") {
+        Some(folder) => folder.into(),
+        None if fetched.is_dir() => fetched,
+        None => "/usr/share/applications".into(),
+    }
 }
 
-/// Compares cases made of real files, so many for each; one file in `spoilt` has something wrong.
-fn of_real_files(
+/// The files of the folder: enough of them, and most of them well formed.
+fn real_files() -> Vec<Vec<u8>> {
+    let folder = folder();
+    let entries = fs::read_dir(&folder).into_iter().flatten().flatten();
+    let mut paths: Vec<_> = entries
+        .map(|entry| entry.path())
+        .filter(|path| path.extension().is_some_and(|end| end == "desktop") && path.is_file())
+        .collect();
+    paths.sort();
+    assert!(
+        paths.len() >= LEAST,
+        "{} has {} .desktop files, and {LEAST} are needed: rust/compare/real-files fetches real ones",
+        folder.display(),
+        paths.len()
+    );
+    let real: Vec<_> = paths.iter().map(|path| fs::read(path).unwrap()).collect();
+    most("are well formed", &real, |file| {
+        kveldrim::check(file).is_ok()
+    });
+    real
+}
+
+/// Asks that more than half of the files are so.
+fn most(what: &str, real: &[Vec<u8>], is_so: impl Fn(&[u8]) -> bool) {
+    let (count, all) = (real.iter().filter(|file| is_so(file)).count(), real.len());
+    assert!(2 * count > all, "only {count} of {all} real files {what}");
+}
+
+/// Compares cases made of real files, so many for each; one file in `spoilt` has something wrong. The outcomes must come up.
+fn of_files(
+    real: &[Vec<u8>],
     test: &str,
     each: u64,
     spoilt: usize,
+    outcomes: Outcomes,
     make: impl Fn(Vec<u8>, &mut Random) -> Case,
 ) {
-    let real = real_files();
-    if real.is_empty() {
-        return;
-    }
-    run(test, real.len() as u64 * each, &[], |random| {
+    run(test, real.len() as u64 * each, outcomes, |random| {
         let mut file = real[random.below(real.len())].clone();
         if random.once_in(spoilt) {
             files::spoil(&mut file, random);
@@ -47,40 +70,64 @@ fn of_real_files(
 
 #[test]
 fn real_files_whole_and_spoilt() {
-    of_real_files("real_files_whole_and_spoilt", 10, 2, |file, random| {
+    let outcomes: Outcomes = &[
+        ("check", &[0, 2]),
+        ("complete", &[0, 2]),
+        ("lookup", &[0, 2, 7, 8]),
+        ("choose", &[0, 2, 7, 8]),
+    ];
+    let test = "real_files_whole_and_spoilt";
+    of_files(&real_files(), test, 10, 2, outcomes, |file, random| {
         files::asked(file, 4, random)
     });
 }
 
 #[test]
 fn real_files_edited() {
-    of_real_files("real_files_edited", 20, 8, |file, random| {
+    let outcomes: Outcomes = &[
+        ("set", &[0, 7, 8, 10, 11, 13]),
+        ("remove", &[0, 8, 17]),
+        ("undo", &[0, 12]),
+        ("redo", &[0, 12]),
+    ];
+    let test = "real_files_edited";
+    of_files(&real_files(), test, 20, 8, outcomes, |file, random| {
         Case::Edits(lists::started(&file, 10, random))
     });
 }
 
 #[test]
 fn real_values() {
+    let real = real_files();
     let mut values = Vec::new();
-    for file in real_files() {
-        for (start, end) in split_lines(&file) {
+    for file in &real {
+        for (start, end) in split_lines(file) {
             let line = &file[start..end];
             if let Line::Entry { value, .. } = read_line(line) {
                 values.push(line[value.0..value.1].to_vec());
             }
         }
     }
-    if values.is_empty() {
-        return;
-    }
-    run("real_values", values.len() as u64, &[], |random| {
-        Case::Text(values[random.below(values.len())].clone())
+    let found = values.len();
+    assert!(found > 5 * real.len(), "only {found} values");
+    let outcomes: Outcomes = &[
+        ("read_text", &[0, 11]),
+        ("write_text", &[0, 11]),
+        ("read_list", &[0, 11]),
+    ];
+    run("real_values", found as u64, outcomes, |random| {
+        Case::Text(values[random.below(found)].clone())
     });
 }
 
 #[test]
 fn real_commands() {
-    of_real_files("real_commands", 100, 4, |file, random| {
+    let real = real_files();
+    most("have a command that expands", &real, |file| {
+        kveldrim::expand_args(file, b"", b"", &["a"], 0).is_ok()
+    });
+    let outcomes: Outcomes = &[("expand", &[0, 2, 7, 8, 10, 11, 14])];
+    of_files(&real, "real_commands", 100, 4, outcomes, |file, random| {
         Case::Expand(Box::new(expand::of_file(file, random)))
     });
 }

@@ -99,11 +99,7 @@ impl Refusal {
                 line: self.place,
                 byte: self.byte,
             },
-            Kind::First
-            | Kind::GroupTwice
-            | Kind::KeyTwice
-            | Kind::NoPlain
-            | Kind::Incomplete
+            Kind::First | Kind::GroupTwice | Kind::KeyTwice | Kind::NoPlain | Kind::Incomplete
                 if self.place > 0 =>
             {
                 Place::Line(self.place)

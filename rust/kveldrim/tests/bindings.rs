@@ -1,9 +1,7 @@
-//! The bindings on their own: the examples of the rules, the words of refusals, and the C header beside them.
-
-use std::process::Command;
+//! The bindings on their own: the examples of the rules, and the words of refusals.
 
 use kveldrim::{
-    ffi, Buffers, Document, Edit, Edits, Elements, Kind, Numbers, Place, Refusal, DESKTOP_ENTRY,
+    Buffers, Document, Edit, Edits, Elements, Kind, Numbers, Place, Refusal, DESKTOP_ENTRY,
 };
 
 const T: &[u8] = b"[Desktop Entry]\nType=Application\nName=Lesen\nName[fr]=Lire\nExec=view %F\n";
@@ -220,36 +218,4 @@ fn words_of_refusals() {
         assert_eq!(Kind::of(kind.number()), Some(*kind));
     }
     assert_eq!(Kind::of(0), None);
-}
-
-/// The library, the declarations here and the header are of one interface.
-#[test]
-fn one_abi() {
-    let header = include_str!("../../../include/kveldrim.h");
-    let line = header
-        .lines()
-        .find_map(|line| line.strip_prefix("#define KVELDRIM_ABI "));
-    assert_eq!(line, Some(ffi::ABI.to_string().as_str()));
-    // SAFETY: the call is handed nothing.
-    assert_eq!(unsafe { ffi::kveldrim_abi() }, ffi::ABI);
-}
-
-/// The header is good C and C++, where there is a compiler to ask.
-#[test]
-fn header() {
-    let header = concat!(env!("CARGO_MANIFEST_DIR"), "/../../include/kveldrim.h");
-    for (language, standard) in [("c", "-std=c99"), ("c++", "-std=c++98")] {
-        let flags = ["-pedantic", "-Wall", "-Wextra", "-Werror", "-fsyntax-only"];
-        let told = Command::new("cc")
-            .args(["-x", language, standard])
-            .args(flags)
-            .arg(header)
-            .output();
-        if let Ok(told) = told {
-            let words = String::from_utf8_lossy(&told.stderr).into_owned();
-            // A C compiler may come without C++.
-            let absent = words.contains("cc1plus");
-            assert!(told.status.success() || absent, "{words}");
-        }
-    }
 }
