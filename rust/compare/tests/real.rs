@@ -1,5 +1,5 @@
-//! Real .desktop files, whole and spoilt: those of the folder KVELDRIM_DESKTOP, else of target/real-files at the repository's top
-//! (the script `real-files` puts them there), else of /usr/share/applications.
+//! Real .desktop files, whole and spoilt: those of the folder KVELDRIM_DESKTOP, else of rust/target/real-files (the script
+//! `real-files` puts them there), else of /usr/share/applications.
 
 use std::path::{Path, PathBuf};
 use std::{env, fs};
@@ -14,7 +14,7 @@ use reference::lines::{read_line, split_lines, Line};
 const LEAST: usize = 30;
 
 fn folder() -> PathBuf {
-    let fetched = Path::new(env!("CARGO_MANIFEST_DIR")).join("../../target/real-files");
+    let fetched = Path::new(env!("CARGO_MANIFEST_DIR")).join("../target/real-files");
     match env::var_os("KVELDRIM_DESKTOP") {
         Some(folder) => folder.into(),
         None if fetched.is_dir() => fetched,

@@ -292,6 +292,7 @@ fn hostile_states_are_answered() {
 fn any_bytes_are_answered() {
     let alphabet = b"[]#=\n\n aZ-_.@\t;\\\"%fFcis\x80\xC3\xA9\xE0\xFF\0";
     let mut random = Random::seeded(1);
+    let (mut written, mut expanded_runs) = (0, 0);
     for _ in 0..20_000 {
         let noise = random.bytes(alphabet, 12);
         let file = with_header(&[b"Name=n\nExec=v ", noise.as_slice(), b"\n"].concat());
@@ -310,6 +311,7 @@ fn any_bytes_are_answered() {
             assert_eq!(read(&raw), Ok(noise.clone()));
             let line = [b"A=".as_slice(), &raw].concat();
             assert_eq!(check(&with_header(&line)), Ok(()));
+            written += 1;
         }
         let list = records(2, &["x", "y"]);
         let run = random.next() % 3;
@@ -318,6 +320,7 @@ fn any_bytes_are_answered() {
             assert_eq!(expanded, Err(refusal));
         } else if let Ok(out) = expanded {
             assert_eq!(split(3, &out)[0], b"v");
+            expanded_runs += 1;
         }
         let _ = output(|out| expand(&file, &noise, &noise, &noise, run, out), 1_000);
         let mut book = Book::new(&noise, random.below(40), random.below(40));
@@ -327,6 +330,7 @@ fn any_bytes_are_answered() {
         let _ = book.redo();
         let _ = (book.file(), book.standing());
     }
+    assert!(written > 1_000 && expanded_runs > 1_000);
 }
 
 #[test]
