@@ -5,31 +5,40 @@
 use std::collections::BTreeMap;
 use std::env;
 use std::ffi::{OsStr, OsString};
-use std::fs;
+use std::fs::{self, File, Permissions};
+use std::os::unix::fs::PermissionsExt;
 use std::path::{Path, PathBuf};
 use std::process::{self, Command, ExitCode};
 use std::sync::atomic::{AtomicU32, Ordering};
 
+use crate::attributes::Attributes;
 use crate::journal::{self, Pair};
 use crate::store::Store;
 
 const WORDS: &str = "KVELDRIM_TEST_WORDS";
 const STEP: &str = "KVELDRIM_TEST_STEP";
 const CHANGE: &str = "KVELDRIM_TEST_CHANGE";
+const REPLACE: &str = "KVELDRIM_TEST_REPLACE";
 
 /// What another program writes to the file.
 const OTHER: &[u8] = b"[Desktop Entry]\nName=other\n";
 
-/// Dies if this is the step to die at, or does what another program may do just then: changes the file.
+/// Dies if this is the step to die at, or does what another program may do just then: changes the file, or puts another with
+/// the same bytes in its place.
 pub fn step() {
     static STEPS: AtomicU32 = AtomicU32::new(1);
     let Ok(last) = env::var(STEP) else {
         return;
     };
     if STEPS.fetch_add(1, Ordering::Relaxed).to_string() == last {
-        match env::var(CHANGE) {
-            Ok(file) => fs::write(file, OTHER).unwrap(),
-            Err(_) => process::abort(),
+        match (env::var(CHANGE), env::var(REPLACE)) {
+            (Ok(file), _) => fs::write(file, OTHER).unwrap(),
+            (_, Ok(file)) => {
+                let copy = format!("{file}-copy");
+                fs::copy(&file, &copy).unwrap();
+                fs::rename(copy, file).unwrap();
+            }
+            _ => process::abort(),
         }
     }
 }
@@ -63,11 +72,13 @@ impl Place {
         place
     }
 
+    /// A file that is being written may have no rights yet; it then counts as empty.
     fn content(&self) -> Folder {
         let entries = fs::read_dir(&self.0).unwrap();
+        let bytes = |entry: &fs::DirEntry| fs::read(entry.path()).unwrap_or_default();
         entries
             .map(|entry| entry.unwrap())
-            .map(|entry| (entry.file_name(), fs::read(entry.path()).unwrap()))
+            .map(|entry| (entry.file_name(), bytes(&entry)))
             .collect()
     }
 
@@ -108,7 +119,7 @@ impl Drop for Place {
 
 /// What a run would find: the file with its journal.
 fn found(file: &Path) -> Pair {
-    let store = Store::look(file.as_os_str()).unwrap_or_else(|trouble| {
+    let store = Store::look(file.as_os_str(), false).unwrap_or_else(|trouble| {
         trouble.tell();
         panic!("no matching pair is found");
     });
@@ -156,13 +167,11 @@ fn killed_at_each_step(setup: &[&[&str]], words: &[&str]) {
         }
         // What a killed run leaves behind is gone after the next edit.
         assert!(place.run(&["set", "Last", "1"], None));
-        let own = |name: &&OsString| {
-            let name = name.to_string_lossy();
-            name.ends_with("new") || name.ends_with("lock")
-        };
-        assert_eq!(place.content().keys().find(own), None, "step {steps}");
+        let aside = |name: &&OsString| name.to_string_lossy().ends_with("new");
+        assert_eq!(place.content().keys().find(aside), None, "step {steps}");
     }
-    assert!(steps >= 12, "{steps}");
+    // Three files are written aside in eight steps each, and renamed in two.
+    assert!(steps >= 30, "{steps}");
 }
 
 /// Whether every journal's records of before are somewhere in the folder.
@@ -221,12 +230,10 @@ fn a_new_journal() {
     killed_at_each_step(EDITS, &["set", "Name", "x", "--discard-journal"]);
 }
 
-/// Another program changes the file while an edit is under way. Up to the last step before the file is replaced, its bytes
-/// stay and the edit is refused; the journal keeps all that it had.
-#[test]
-fn a_change_during_an_edit() {
-    let file = b"[Desktop Entry]\nName=Lesen\n";
-    let first = Place::with(&Folder::from([("t".into(), file.to_vec())]));
+/// Another program changes the file while an edit is under way, in one of two ways. Up to the last step before the file is
+/// replaced, its bytes stay and the edit is refused; the journal keeps all that it had.
+fn changed_at_each_step(how: &str, bytes: &[u8]) {
+    let first = Place::with(&Folder::from([("t".into(), b"[Desktop Entry]\n".to_vec())]));
     assert!(first.run(&["set", "Name", "Les"], None));
     let start = first.content();
     let mut refused = 0;
@@ -235,18 +242,68 @@ fn a_change_during_an_edit() {
         let mut command = place.command(&["set", "Name", "Lesung"]);
         let outcome = command
             .env(STEP, step.to_string())
-            .env(CHANGE, place.file())
+            .env(how, place.file())
             .output();
         let done = outcome.unwrap().status.success();
         if done {
             break;
         }
         refused += 1;
-        assert_eq!(fs::read(place.file()).unwrap(), OTHER);
+        assert_eq!(fs::read(place.file()).unwrap(), bytes);
         keeps_journal(&start, &place.content());
     }
     // Two files are written aside and the journal is renamed.
-    assert_eq!(refused, 10);
+    assert_eq!(refused, 2 * 8 + 2);
+}
+
+#[test]
+fn a_change_during_an_edit() {
+    changed_at_each_step(CHANGE, OTHER);
+}
+
+#[test]
+fn a_replacement_during_an_edit() {
+    changed_at_each_step(REPLACE, b"[Desktop Entry]\nName=Les\n");
+}
+
+/// Whatever the folder would give to new files, and at whatever step a run is killed: nobody but the owner has a right to a
+/// file beside the edited one that he does not have to that.
+#[test]
+fn no_more_rights_at_any_step() {
+    let file = b"[Desktop Entry]\nName=Lesen\n";
+    for list in ["", "u:7:r,g:9:rw"] {
+        for step in 1.. {
+            let place = Place::with(&Folder::from([("t".into(), file.to_vec())]));
+            fs::set_permissions(place.file(), Permissions::from_mode(0o640)).unwrap();
+            if !list.is_empty() {
+                setfacl(&["-m", list], &place.file());
+            }
+            setfacl(&["-d", "-m", "u:8:rwx,g:9:rwx,o::rwx"], &place.0);
+            let access = |path: &Path| Attributes::of(&File::open(path).unwrap()).unwrap().access;
+            let expected = access(&place.file());
+            let done = place.run(&["set", "Name", "Les"], Some(step));
+            for name in place.content().keys() {
+                let path = place.0.join(name);
+                // With a mask of nothing, nothing in a list counts.
+                let nobodys = fs::metadata(&path).unwrap().permissions().mode() & 0o7077 == 0;
+                assert!(
+                    nobodys || access(&path) == expected,
+                    "step {step}: {name:?}"
+                );
+            }
+            if done {
+                assert_eq!(access(&place.0.join(".t.kveldrim-journal")), expected);
+                assert!(step > 30, "{step}");
+                break;
+            }
+        }
+    }
+}
+
+fn setfacl(words: &[&str], path: &Path) {
+    let set = Command::new("setfacl").args(words).arg(path).status();
+    let set = set.expect("the command `setfacl`, of Debian's package acl");
+    assert!(set.success(), "{words:?}");
 }
 
 /// Files that a killed run left half written are no matter.
@@ -254,7 +311,7 @@ fn a_change_during_an_edit() {
 fn leftovers() {
     let file = b"[Desktop Entry]\nName=Lesen\n";
     let mut content = Folder::from([("t".into(), file.to_vec())]);
-    for end in ["new", "journal-new", "lock"] {
+    for end in ["new", "journal-new"] {
         content.insert(format!(".t.kveldrim-{end}").into(), b"[Desk".to_vec());
     }
     let place = Place::with(&content);

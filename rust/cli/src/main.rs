@@ -3,7 +3,9 @@
 
 #![forbid(unsafe_code)]
 
+mod access;
 mod arguments;
+mod attributes;
 mod disk;
 mod excerpt;
 mod expand;
@@ -11,6 +13,7 @@ mod journal;
 #[cfg(test)]
 mod kills;
 mod log;
+mod names;
 mod report;
 mod store;
 
@@ -21,6 +24,7 @@ use std::ops::Range;
 use std::os::unix::ffi::OsStrExt;
 use std::path::Path;
 use std::process::ExitCode;
+use std::time::Duration;
 
 use arguments::{Change, Command, Wanted};
 use kveldrim::{Document, Kind, Refusal};
@@ -129,10 +133,13 @@ fn edit(
     call: impl FnOnce(&mut Document) -> Result<(), Refusal>,
     refused: impl FnOnce(&[u8], Refusal) -> Trouble,
 ) -> ExitCode {
-    let saved = Store::edit(file, discard).and_then(|store| {
+    let saved = Store::edit(file, discard, Duration::ZERO).and_then(|store| {
         let mut document = store.document();
         call(&mut document).map_err(|refusal| match refusal.kind {
             Kind::Damaged => store.damaged(),
+            Kind::Nothing => store
+                .left_behind()
+                .unwrap_or_else(|| refused(document.file(), refusal)),
             _ => refused(document.file(), refusal),
         })?;
         store.save(&document)
@@ -145,7 +152,10 @@ fn edit(
 
 /// The edits of a file's journal, in words.
 fn tell(file: &OsStr) -> Result<Vec<u8>, Trouble> {
-    let store = Store::look(file)?;
+    let store = Store::look(file, false)?;
+    if let Some(trouble) = store.left_behind() {
+        trouble.tell();
+    }
     let document = store.document();
     let bytes = document.file().to_vec();
     log::lines(document).map_err(|refusal| match refusal.kind {

@@ -4,6 +4,7 @@
 use std::ffi::OsStr;
 use std::io::{self, IsTerminal, Write};
 use std::os::unix::ffi::OsStrExt;
+use std::path::Path;
 use std::process::ExitCode;
 
 use kveldrim::{Kind, Place, Refusal, DESKTOP_ENTRY};
@@ -20,6 +21,8 @@ pub struct Trouble {
 
 const REFUSED: u8 = 1;
 const UNUSABLE: u8 = 2;
+/// EX_TEMPFAIL of sysexits(3): the same words may do later.
+const BUSY: u8 = 75;
 
 impl Trouble {
     fn new(message: Vec<u8>, status: u8) -> Trouble {
@@ -60,7 +63,26 @@ impl Trouble {
     /// Another editor has the lock.
     pub fn busy(file: &OsStr) -> Trouble {
         let words = b"another kveldrim is at work on this file just now; nothing was changed";
-        refused(file, "", words)
+        Trouble {
+            status: BUSY,
+            ..refused(file, "", words)
+        }
+    }
+
+    /// A file without a journal has just the bytes that a journal of no file belongs to.
+    pub fn left_behind(file: &OsStr, journal: &Path, own: &Path) -> Trouble {
+        let name = journal.file_name().unwrap_or_default().as_bytes();
+        let [from, to] = [journal, own].map(in_quotes);
+        let words = [
+            b"it has no journal, but seems to have been renamed: the journal ",
+            name,
+            b" belongs to just these bytes (mv -n ",
+            &from,
+            b" ",
+            &to,
+            b" gives it back)",
+        ];
+        refused(file, "", &words.concat())
     }
 
     /// The file is not the one that its journal was written for.
@@ -74,7 +96,7 @@ impl Trouble {
     }
 
     pub fn unwritable(error: &io::Error) -> Trouble {
-        let message = format!("kveldrim: the answer cannot be written: {error}");
+        let message = format!("kveldrim: the answer cannot be written: {}", plain(error));
         Trouble::new(message.into(), UNUSABLE)
     }
 
@@ -181,8 +203,24 @@ fn of_journal(file: &OsStr, before: &[u8], journal: &OsStr, after: &[u8]) -> Tro
     refused(file, "", &words.concat())
 }
 
+/// An error in words, without its number.
+pub fn plain(error: &io::Error) -> String {
+    let words = error.to_string();
+    match words.split_once(" (os error ") {
+        Some((words, _)) => words.into(),
+        None => words,
+    }
+}
+
+/// A path as a shell takes it.
+fn in_quotes(path: &Path) -> Vec<u8> {
+    let parts = path.as_os_str().as_bytes().split(|byte| *byte == b'\'');
+    let inner = parts.collect::<Vec<_>>().join(&b"'\\''"[..]);
+    [b"'", &inner[..], b"'"].concat()
+}
+
 fn unusable(file: &OsStr, what: &str, error: &io::Error) -> Trouble {
-    let words = format!(": {what}: {error}");
+    let words = format!(": {what}: {}", plain(error));
     Trouble::new([file.as_bytes(), words.as_bytes()].concat(), UNUSABLE)
 }
 
