@@ -146,9 +146,10 @@ impl Access {
             .find_map(|person| self.changes_for(other, person))
     }
 
-    /// The right that a person would lose or gain, in words. Root is bound by none.
+    /// The right that a person would lose or gain, in words. Root loses none with a file that was his; a new owner may be root
+    /// in a user namespace alone.
     fn changes_for(&self, other: &Access, person: &Person) -> Option<String> {
-        if person.uid == 0 {
+        if (person.uid, self.uid) == (0, 0) {
             return None;
         }
         let cases = [self, other].map(|access| access.groups_of(person));
@@ -279,17 +280,21 @@ mod tests {
     }
 
     #[test]
-    fn root_is_bound_by_nothing() {
-        let file = Access {
-            uid: 0,
-            ..access(0o664, &[])
+    fn root() {
+        let given = |from: u32, to: u32, mode: u32| {
+            let file = Access {
+                uid: from,
+                ..access(mode, &[])
+            };
+            let other = Access {
+                uid: to,
+                ..file.clone()
+            };
+            let people = [person(from, Some(&[])), person(to, Some(&[GROUP]))];
+            file.hinders(&other, &people)
         };
-        let other = Access {
-            uid: B,
-            ..file.clone()
-        };
-        let people = [person(0, Some(&[0])), person(B, Some(&[GROUP]))];
-        assert_eq!(file.hinders(&other, &people), None);
+        assert_eq!(given(0, B, 0o664), None);
+        assert_eq!(given(A, 0, 0o767), told("give u0 the right to run"));
     }
 
     const BASE: [(Tag, u32); 4] = [

@@ -259,3 +259,38 @@ fn remove_left_over(path: &Path) -> io::Result<()> {
     open.as_ref().map_or(Ok(()), take_lock)?;
     fs::remove_file(path)
 }
+
+#[cfg(test)]
+mod tests {
+    use std::{env, process};
+
+    use super::*;
+
+    /// Who has the lock has the file that its name leads to, however often others replace it.
+    #[test]
+    fn a_lock_is_of_the_file_in_place() {
+        let folder = env::temp_dir().join(format!("kveldrim-disk-{}", process::id()));
+        fs::create_dir(&folder).unwrap();
+        let file = folder.join("t");
+        fs::write(&file, b"").unwrap();
+        let replace = |new: &Path| {
+            let open = loop {
+                match lock(&file, Duration::ZERO) {
+                    Err(error) if is_busy(&error) => thread::yield_now(),
+                    locked => break locked.unwrap(),
+                }
+            };
+            assert!(is_at(&open, &file).unwrap());
+            let new_open = File::create_new(new).unwrap();
+            take_lock(&new_open).unwrap();
+            fs::rename(new, &file).unwrap();
+        };
+        thread::scope(|scope| {
+            for editor in ["a", "b", "c"] {
+                let (folder, replace) = (&folder, &replace);
+                scope.spawn(move || (0..1_000).for_each(|_| replace(&folder.join(editor))));
+            }
+        });
+        fs::remove_dir_all(folder).unwrap();
+    }
+}

@@ -6,12 +6,16 @@ use std::collections::BTreeMap;
 use std::env;
 use std::ffi::{OsStr, OsString};
 use std::fs::{self, File, Permissions};
-use std::os::unix::fs::PermissionsExt;
+use std::os::unix::fs::{chown, MetadataExt, PermissionsExt};
 use std::path::{Path, PathBuf};
 use std::process::{self, Command, ExitCode};
 use std::sync::atomic::{AtomicU32, Ordering};
+use std::time::Duration;
+
+use nix::unistd::geteuid;
 
 use crate::attributes::Attributes;
+use crate::disk;
 use crate::journal::{self, Pair};
 use crate::store::Store;
 
@@ -19,14 +23,19 @@ const WORDS: &str = "KVELDRIM_TEST_WORDS";
 const STEP: &str = "KVELDRIM_TEST_STEP";
 const CHANGE: &str = "KVELDRIM_TEST_CHANGE";
 const REPLACE: &str = "KVELDRIM_TEST_REPLACE";
+const LOCKED: &str = "KVELDRIM_TEST_LOCKED";
 
 /// What another program writes to the file.
 const OTHER: &[u8] = b"[Desktop Entry]\nName=other\n";
 
-/// Dies if this is the step to die at, or does what another program may do just then: changes the file, or puts another with
-/// the same bytes in its place.
+/// Asks whether the file is locked. If this is the step to do so, dies, or does what another program may do just then: changes
+/// the file, or puts another with the same bytes in its place.
 pub fn step() {
     static STEPS: AtomicU32 = AtomicU32::new(1);
+    if let Ok(file) = env::var(LOCKED) {
+        let other = disk::lock(Path::new(&file), Duration::ZERO);
+        assert!(other.is_err_and(|error| disk::is_busy(&error)));
+    }
     let Ok(last) = env::var(STEP) else {
         return;
     };
@@ -67,7 +76,9 @@ impl Place {
         let place = Place(env::temp_dir().join(name));
         fs::create_dir(&place.0).unwrap();
         for (name, bytes) in content {
-            fs::write(place.0.join(name), bytes).unwrap();
+            let path = place.0.join(name);
+            fs::write(&path, bytes).unwrap();
+            fs::set_permissions(path, Permissions::from_mode(0o644)).unwrap();
         }
         place
     }
@@ -266,44 +277,72 @@ fn a_replacement_during_an_edit() {
     changed_at_each_step(REPLACE, b"[Desktop Entry]\nName=Les\n");
 }
 
-/// Whatever the folder would give to new files, and at whatever step a run is killed: nobody but the owner has a right to a
+/// Whatever the folder would give to new files, and at whatever step a run is killed: nobody but who edits has a right to a
 /// file beside the edited one that he does not have to that.
-#[test]
-fn no_more_rights_at_any_step() {
-    let file = b"[Desktop Entry]\nName=Lesen\n";
-    for list in ["", "u:7:r,g:9:rw"] {
-        for step in 1.. {
-            let place = Place::with(&Folder::from([("t".into(), file.to_vec())]));
-            fs::set_permissions(place.file(), Permissions::from_mode(0o640)).unwrap();
-            if !list.is_empty() {
-                setfacl(&["-m", list], &place.file());
-            }
-            setfacl(&["-d", "-m", "u:8:rwx,g:9:rwx,o::rwx"], &place.0);
-            let access = |path: &Path| Attributes::of(&File::open(path).unwrap()).unwrap().access;
-            let expected = access(&place.file());
-            let done = place.run(&["set", "Name", "Les"], Some(step));
-            for name in place.content().keys() {
-                let path = place.0.join(name);
-                // With a mask of nothing, nothing in a list counts.
-                let nobodys = fs::metadata(&path).unwrap().permissions().mode() & 0o7077 == 0;
-                assert!(
-                    nobodys || access(&path) == expected,
-                    "step {step}: {name:?}"
-                );
-            }
-            if done {
-                assert_eq!(access(&place.0.join(".t.kveldrim-journal")), expected);
-                assert!(step > 30, "{step}");
-                break;
-            }
+fn no_more_rights(owner: u32, mode: u32, list: &str) {
+    for step in 1.. {
+        let file = b"[Desktop Entry]\nName=Lesen\n";
+        let place = Place::with(&Folder::from([("t".into(), file.to_vec())]));
+        chown(place.file(), Some(owner), None).unwrap();
+        fs::set_permissions(place.file(), Permissions::from_mode(mode)).unwrap();
+        if !list.is_empty() {
+            setfacl(&["-m", list], &place.file());
+        }
+        setfacl(&["-d", "-m", "u:8:rwx,g:9:rwx,o::rwx"], &place.0);
+        let access = |path: &Path| Attributes::of(&File::open(path).unwrap()).unwrap().access;
+        let expected = access(&place.file());
+        let done = place.run(&["set", "Name", "Les"], Some(step));
+        for name in place.content().keys() {
+            let path = place.0.join(name);
+            let found = fs::metadata(&path).unwrap();
+            let mode = found.mode() & 0o7777;
+            // With a mask of nothing, nothing in a list counts.
+            let of_editor = found.uid() == geteuid().as_raw() && mode & 0o7077 == 0;
+            assert!(
+                of_editor || mode == 0 || access(&path) == expected,
+                "step {step}: {name:?}"
+            );
+        }
+        if done {
+            assert_eq!(access(&place.0.join(".t.kveldrim-journal")), expected);
+            assert!(step > 30, "{step}");
+            break;
         }
     }
+}
+
+#[test]
+fn no_more_rights_at_any_step() {
+    let own = geteuid().as_raw();
+    no_more_rights(own, 0o640, "");
+    no_more_rights(own, 0o640, "u:7:r,g:9:rw");
+}
+
+#[test]
+fn no_more_rights_for_an_owner_as_root() {
+    let own = geteuid().as_raw();
+    assert_eq!(own, 0, "this test gives a file away: run it as root");
+    no_more_rights(5, 0o440, "");
+    no_more_rights(5, 0o440, "u:7:r");
 }
 
 fn setfacl(words: &[&str], path: &Path) {
     let set = Command::new("setfacl").args(words).arg(path).status();
     let set = set.expect("the command `setfacl`, of Debian's package acl");
     assert!(set.success(), "{words:?}");
+}
+
+/// The old file and then the new one are locked from the first step to the last.
+#[test]
+fn locked_at_every_step() {
+    let place = Place::with(&Folder::from([("t".into(), b"[Desktop Entry]\n".to_vec())]));
+    let mut command = place.command(&["set", "Name", "Les"]);
+    let outcome = command.env(LOCKED, place.file()).output().unwrap();
+    let told = String::from_utf8_lossy(&outcome.stderr);
+    assert!(outcome.status.success(), "{told}");
+    let done = disk::lock(&place.file(), Duration::ZERO);
+    assert!(done.is_ok());
+    assert_eq!(found(&place.file()).file, b"[Desktop Entry]\nName=Les\n");
 }
 
 /// Files that a killed run left half written are no matter.

@@ -173,6 +173,7 @@ fn belonging(
 #[cfg(test)]
 mod tests {
     use std::path::PathBuf;
+    use std::sync::atomic::{AtomicBool, Ordering};
     use std::time::Instant;
     use std::{env, fs, process, thread};
 
@@ -255,6 +256,29 @@ mod tests {
         let store = store.unwrap_or_else(|_| panic!("no pair belongs"));
         let document = store.document();
         assert_eq!(kveldrim::Edits::new(document.journal()).count(), 48);
+    }
+
+    /// A reader may find the file of before and the journal of after.
+    #[test]
+    fn readers_find_a_pair_at_any_time() {
+        let place = Place::new("readers");
+        let look = || Store::look(place.file().as_os_str(), false);
+        let done = AtomicBool::new(false);
+        thread::scope(|scope| {
+            for _ in 0..3 {
+                scope.spawn(|| {
+                    while !done.load(Ordering::Relaxed) {
+                        assert_eq!(look().err().map(|trouble| trouble.status()), None);
+                    }
+                });
+            }
+            for number in 0..150 {
+                // A reader takes no lock.
+                let set = place.set(&format!("X-{number}"), Duration::ZERO);
+                done.store(number == 149 || set.is_err(), Ordering::Relaxed);
+                assert_eq!(set, Ok(()));
+            }
+        });
     }
 
     #[test]

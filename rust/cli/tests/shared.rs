@@ -159,6 +159,14 @@ fn edits_that_would_change_rights_as_root() {
             guest(),
             "it is set-group-ID, and its group cannot be kept".into(),
         ),
+        // Only a member of a group can make a file set-group-ID.
+        (
+            (GAMES.0, MAN.1),
+            0o2664,
+            0o2775,
+            shared.command(GAMES.0, GAMES.1, None),
+            "its owner, group, mode or access list cannot be kept".into(),
+        ),
     ];
     for (of, mode, folder_mode, command, reason) in cases {
         let folder = owned(of, mode, folder_mode);
