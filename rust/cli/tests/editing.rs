@@ -335,7 +335,7 @@ fn two_editors_at_once() {
     folder.run(&[b"get", b"t", b"Name"]).writes(b"Les\n");
     assert_eq!(*log, ["log", "t"]);
     folder.logs("stands: Name in Desktop Entry: \"Lesen\" became \"Les\"\n");
-    drop(other);
+    flock(&other, FlockOperation::Unlock).unwrap();
     folder.does(&["undo", "t"]);
     assert_eq!(folder.names(), [JOURNAL, "t"]);
 }
@@ -389,7 +389,7 @@ fn files_that_another_editor_writes() {
         flock(&other, FlockOperation::LockExclusive).unwrap();
         let told = "t: another kveldrim is at work on this file just now; nothing was changed";
         folder.refuses(75, &["set", "t", "Name", "x"], told);
-        drop(other);
+        flock(&other, FlockOperation::Unlock).unwrap();
         folder.does(&["set", "t", "Name", "x"]);
         assert_eq!(folder.names(), [JOURNAL, "t"]);
     }
