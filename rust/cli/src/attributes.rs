@@ -85,7 +85,7 @@ impl Attributes {
         if get(new, OsStr::new(LIST))?.is_some() {
             new.remove_xattr(LIST)?;
         }
-        new.set_permissions(Permissions::from_mode(0))?;
+        new.set_permissions(Permissions::from_mode(0o000))?;
         step();
         let Access { uid, gid, .. } = self.access;
         if !own(new, Some(uid), gid)? {
