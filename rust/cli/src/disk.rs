@@ -1,123 +1,75 @@
-//! What is done on disk: names beside a file, a lock, and bytes that are all there or not at all.
+//! What is done on disk: a lock, and bytes that are all there or not at all.
 
-use std::ffi::{OsStr, OsString};
-use std::fs::{self, File, Metadata, OpenOptions, TryLockError};
-use std::io::{self, ErrorKind, Read, Write};
-use std::os::unix::fs::{fchown, MetadataExt, OpenOptionsExt};
+use std::fs::{self, File, Metadata, OpenOptions};
+use std::io::{self, ErrorKind, Read, Seek, Write};
+use std::os::unix::fs::{MetadataExt, OpenOptionsExt};
 use std::path::{Path, PathBuf};
+use std::thread;
+use std::time::{Duration, Instant};
+
+use rustix::fs::{flock, FlockOperation, OFlags};
+
+use crate::attributes::Attributes;
+use crate::names::Names;
 
 /// A point at which the command may be killed; the tests kill it at each.
 #[cfg(not(test))]
-fn step() {}
+pub fn step() {}
 
 #[cfg(test)]
-use crate::kills::step;
+pub use crate::kills::step;
 
-/// Where a file lies, links followed, and the names beside it that are the command's own.
-pub struct Names {
-    pub file: PathBuf,
-    folder: PathBuf,
-    name: OsString,
-}
+/// How long an editor pauses before it tries a lock again.
+const PAUSE: Duration = Duration::from_millis(3);
 
-impl Names {
-    pub fn of(file: &OsStr) -> io::Result<Names> {
-        let file = fs::canonicalize(file)?;
-        match (file.parent(), file.file_name()) {
-            (Some(folder), Some(name)) if file.is_file() => Ok(Names {
-                folder: folder.into(),
-                name: name.into(),
-                file,
-            }),
-            _ => Err(io::Error::other("it is not a plain file")),
-        }
-    }
-
-    /// `.NAME.kveldrim-END`.
-    fn own(&self, end: &str) -> OsString {
-        let mut own = OsString::from(".");
-        own.push(&self.name);
-        own.push(".kveldrim-");
-        own.push(end);
-        own
-    }
-
-    fn beside(&self, end: &str) -> PathBuf {
-        self.folder.join(self.own(end))
-    }
-
-    /// The journal's name without its folder.
-    pub fn journal_name(&self) -> OsString {
-        self.own("journal")
-    }
-
-    pub fn journal(&self) -> PathBuf {
-        self.beside("journal")
-    }
-
-    fn lock(&self) -> PathBuf {
-        self.beside("lock")
-    }
-
-    fn new_file(&self) -> PathBuf {
-        self.beside("new")
-    }
-
-    fn new_journal(&self) -> PathBuf {
-        self.beside("journal-new")
-    }
-
-    /// The number-th journal that was put aside.
-    fn aside(&self, number: u32) -> PathBuf {
-        self.beside(&format!("journal-{number}"))
-    }
-}
-
-/// Keeps other editors of a file away while it lives. A lock ends with its process, however that ends.
-pub struct Lock {
-    _open: File,
-    path: PathBuf,
-}
-
-impl Lock {
-    /// The lock of a file; none if another holds it.
-    pub fn of(names: &Names) -> io::Result<Option<Lock>> {
-        let path = names.lock();
-        loop {
-            let Some(open) = open_or_make(&path)? else {
-                continue;
-            };
-            match open.try_lock() {
-                Ok(()) => {}
-                Err(TryLockError::WouldBlock) => return Ok(None),
-                Err(TryLockError::Error(error)) => return Err(error),
-            }
-            // Its last holder may have removed it between the opening and the locking.
-            if is_at(&open, &path)? {
-                return Ok(Some(Lock { _open: open, path }));
-            }
+/// Opens a file and locks it: no other editor has it until it is closed, and a lock ends with its process, however that ends.
+/// Where another has the lock, it is tried again for as long as `wait`; the error is then of the kind `WouldBlock`.
+pub fn lock(file: &Path, wait: Duration) -> io::Result<File> {
+    let start = Instant::now();
+    loop {
+        match lock_once(file) {
+            // Another program has put a new file there between the opening and the locking.
+            Ok(None) => {}
+            Ok(Some(open)) => return Ok(open),
+            Err(error) if is_busy(&error) && start.elapsed() < wait => thread::sleep(PAUSE),
+            Err(error) => return Err(error),
         }
     }
 }
 
-impl Drop for Lock {
-    fn drop(&mut self) {
-        let _ = fs::remove_file(&self.path);
-    }
+/// The file, open and locked; none if it is no longer there under its name.
+fn lock_once(file: &Path) -> io::Result<Option<File>> {
+    // A rename would replace a file that may not be written, so ask.
+    let open = open_plain(OpenOptions::new().read(true).write(true), file, "it")?;
+    take_lock(&open)?;
+    Ok(is_at(&open, file)?.then_some(open))
 }
 
-/// The file at a path, made if it is not there; none if another made it in between.
-fn open_or_make(path: &Path) -> io::Result<Option<File>> {
-    let opened = match File::open(path) {
-        Err(error) if error.kind() == ErrorKind::NotFound => {
-            OpenOptions::new().write(true).create_new(true).open(path)
-        }
-        opened => opened,
+fn take_lock(open: &File) -> io::Result<()> {
+    Ok(flock(open, FlockOperation::NonBlockingLockExclusive)?)
+}
+
+/// Whether an error says that another has a lock.
+pub fn is_busy(error: &io::Error) -> bool {
+    error.kind() == ErrorKind::WouldBlock
+}
+
+/// Opens a file that must be a plain one. A link is not followed, and nothing is waited for.
+fn open_plain(options: &mut OpenOptions, path: &Path, what: &str) -> io::Result<File> {
+    let flags = OFlags::NOFOLLOW | OFlags::NONBLOCK;
+    let opened = options.custom_flags(flags.bits() as i32).open(path);
+    let found = match &opened {
+        Ok(open) => open.metadata(),
+        Err(_) => fs::symlink_metadata(path),
     };
-    match opened {
-        Err(error) if error.kind() == ErrorKind::AlreadyExists => Ok(None),
-        opened => opened.map(Some),
+    match found {
+        Ok(found) if !found.is_file() => Err(not_plain(what)),
+        _ => opened,
     }
+}
+
+pub fn not_plain(what: &str) -> io::Error {
+    io::Error::other(format!("{what} is not a plain file"))
 }
 
 /// Whether the open file is the one that the path names.
@@ -130,12 +82,51 @@ fn is_at(open: &File, path: &Path) -> io::Result<bool> {
     }
 }
 
+/// A file that is open for reading, and what it was like then.
+pub fn open(file: &Path) -> io::Result<(File, Metadata)> {
+    let open = open_plain(OpenOptions::new().read(true), file, "it")?;
+    let seen = open.metadata()?;
+    Ok((open, seen))
+}
+
+/// Whether the path names still the file that was like this, and nothing was written to it.
+pub fn stands_still(file: &Path, seen: &Metadata) -> bool {
+    let state = |of: &Metadata| {
+        let written = (of.mtime(), of.mtime_nsec(), of.ctime(), of.ctime_nsec());
+        (of.dev(), of.ino(), of.size(), written)
+    };
+    fs::symlink_metadata(file).is_ok_and(|now| state(&now) == state(seen))
+}
+
 /// The bytes of a file, at most one more than `most`.
 pub fn read(file: &Path, most: usize) -> io::Result<Vec<u8>> {
+    content(&File::open(file)?, most)
+}
+
+/// The bytes of an open file, at most one more than `most`.
+pub fn content(open: &File, most: usize) -> io::Result<Vec<u8>> {
     let mut bytes = Vec::new();
-    let open = File::open(file)?;
     open.take(most as u64 + 1).read_to_end(&mut bytes)?;
     Ok(bytes)
+}
+
+/// The bytes of a journal, at most one more than `most`; none if it is not there.
+pub fn read_journal(journal: &Path, most: usize) -> io::Result<Option<Vec<u8>>> {
+    let what = format!("its journal {}", name(journal));
+    match open_plain(OpenOptions::new().read(true), journal, &what) {
+        Ok(open) => content(&open, most).map(Some),
+        Err(error) if error.kind() == ErrorKind::NotFound => Ok(None),
+        Err(error) if error.kind() == ErrorKind::PermissionDenied => {
+            Err(io::Error::other(format!("{what} may not be read")))
+        }
+        Err(error) => Err(error),
+    }
+}
+
+/// The last part of a path, for a message.
+fn name(path: &Path) -> String {
+    let name = path.file_name().unwrap_or_default();
+    name.to_string_lossy().into_owned()
 }
 
 /// What is to be put on disk.
@@ -150,85 +141,149 @@ pub struct Replacement<'a> {
     pub aside: Option<&'a [u8]>,
 }
 
-/// Puts new bytes and a new journal in place of the old ones. After an error the old bytes and their journal are there.
-pub fn replace(names: &Names, like: &Metadata, with: &Replacement) -> io::Result<()> {
-    let written = with
-        .aside
-        .map_or(Ok(()), |bytes| put_aside(names, bytes, like))
-        .and_then(|()| write_new(&names.new_file(), with.new, like))
-        .and_then(|()| write_new(&names.new_journal(), with.journal, like))
-        .and_then(|()| rename(names, &names.new_journal(), &names.journal()))
-        .and_then(|()| unchanged(&names.file, with.old))
-        .and_then(|()| rename(names, &names.new_file(), &names.file));
-    if written.is_ok() {
-        // The edit is done. Where this fails, the journal that is there serves as well.
-        let _ = write_new(&names.new_journal(), with.settled, like)
-            .and_then(|()| rename(names, &names.new_journal(), &names.journal()));
+/// Puts new bytes and a new journal in place of the old ones. After an error the old bytes and their journal are there. The
+/// open file is the locked one; the new file is locked too before it is there.
+pub fn replace(names: &Names, open: &File, with: &Replacement) -> io::Result<()> {
+    let like = Attributes::of(open)?;
+    if let Some(bytes) = with.aside {
+        put_aside(names, bytes, &like)?;
     }
-    let _ = remove(&names.new_file()).and(remove(&names.new_journal()));
-    written
+    let new = Written::new(names.new_file(), with.new, &like)?;
+    let journal = Written::new(names.new_journal(), with.journal, &like)?;
+    journal.rename(names, names.journal())?;
+    unchanged(names, open, with.old)?;
+    let _locked = new.rename(names, names.file.clone())?;
+    // The edit is done. Where this fails, the journal that is there serves as well.
+    let _ = Written::new(names.new_journal(), with.settled, &like)
+        .and_then(|journal| journal.rename(names, names.journal()));
+    Ok(())
 }
 
-/// Whether a file still has these bytes: the last question before they are replaced.
-fn unchanged(file: &Path, bytes: &[u8]) -> io::Result<()> {
-    match read(file, bytes.len())? == bytes {
+/// Whether the file is still the one that is locked, with these bytes: the last question before they are replaced.
+fn unchanged(names: &Names, mut open: &File, bytes: &[u8]) -> io::Result<()> {
+    open.rewind()?;
+    match is_at(open, &names.file)? && content(open, bytes.len())? == bytes {
         true => Ok(()),
         false => Err(io::Error::other("another program has just changed it")),
     }
 }
 
 /// A copy of an old journal under the first free name.
-fn put_aside(names: &Names, bytes: &[u8], like: &Metadata) -> io::Result<()> {
+fn put_aside(names: &Names, bytes: &[u8], like: &Attributes) -> io::Result<()> {
     for number in 1.. {
-        match write_free(&names.aside(number), bytes, like) {
+        match Written::free(names.aside(number), bytes, like) {
             Err(error) if error.kind() == ErrorKind::AlreadyExists => {}
-            written => return written,
+            written => return written.map(|mut written| written.path = None),
         }
     }
     Err(ErrorKind::AlreadyExists.into())
 }
 
-/// Bytes under a name that may be left over from a run that was killed.
-fn write_new(path: &Path, bytes: &[u8], like: &Metadata) -> io::Result<()> {
-    remove(path)?;
-    step();
-    write_free(path, bytes, like)
+/// A file that was written aside, with all its bytes on disk. It is locked, and goes unless it is renamed.
+struct Written {
+    open: File,
+    path: Option<PathBuf>,
 }
 
-/// Bytes under a free name, with the owner and the rights of the file, all of them on disk.
-fn write_free(path: &Path, bytes: &[u8], like: &Metadata) -> io::Result<()> {
-    let mut options = OpenOptions::new();
-    let mut file = options
-        .write(true)
-        .create_new(true)
-        .mode(0o600)
-        .open(path)?;
-    step();
-    file.write_all(bytes)?;
-    step();
-    let made = file.metadata()?;
-    if (made.uid(), made.gid()) != (like.uid(), like.gid()) {
-        fchown(&file, Some(like.uid()), Some(like.gid()))?;
+impl Written {
+    /// Bytes under a name that may be left over from a run that was killed.
+    fn new(path: PathBuf, bytes: &[u8], like: &Attributes) -> io::Result<Written> {
+        remove_left_over(&path)?;
+        step();
+        Written::free(path, bytes, like)
     }
-    file.set_permissions(like.permissions())?;
-    file.sync_all()?;
-    step();
-    Ok(())
+
+    /// Bytes under a free name, with the access and the attributes of the file.
+    fn free(path: PathBuf, bytes: &[u8], like: &Attributes) -> io::Result<Written> {
+        let mut options = OpenOptions::new();
+        options.read(true).write(true).create_new(true).mode(0o600);
+        let open = options.open(&path)?;
+        let mut written = Written {
+            open,
+            path: Some(path),
+        };
+        take_lock(&written.open)?;
+        step();
+        written.open.write_all(bytes)?;
+        step();
+        like.give(&written.open)?;
+        step();
+        written.open.sync_all()?;
+        step();
+        Ok(written)
+    }
+
+    /// A rename that is on disk before the next one starts, as far as the file system can do so. Answers the locked file.
+    fn rename(mut self, names: &Names, to: PathBuf) -> io::Result<Written> {
+        if let Some(path) = &self.path {
+            if !is_at(&self.open, path)? {
+                return Err(ErrorKind::WouldBlock.into());
+            }
+            fs::rename(path, to)?;
+            self.path = None;
+        }
+        step();
+        let _ = File::open(&names.folder).and_then(|folder| folder.sync_all());
+        step();
+        Ok(self)
+    }
 }
 
-/// A rename that is on disk before the next one starts, as far as the file system can do so.
-fn rename(names: &Names, from: &Path, to: &Path) -> io::Result<()> {
-    fs::rename(from, to)?;
-    step();
-    let _ = File::open(&names.folder).and_then(|folder| folder.sync_all());
-    step();
-    Ok(())
+impl Drop for Written {
+    fn drop(&mut self) {
+        if let Some(path) = &self.path {
+            if is_at(&self.open, path).unwrap_or(false) {
+                let _ = fs::remove_file(path);
+            }
+        }
+    }
 }
 
-/// Removes a file that may be there.
-fn remove(path: &Path) -> io::Result<()> {
-    match fs::remove_file(path) {
-        Err(error) if error.kind() == ErrorKind::NotFound => Ok(()),
-        removed => removed,
+/// Removes a file that a killed run left behind. One that is locked is in use: another program has put a file of its own in
+/// place of the one that its editor has locked.
+fn remove_left_over(path: &Path) -> io::Result<()> {
+    let what = format!("{} beside it", name(path));
+    let open = match open_plain(OpenOptions::new().read(true), path, &what) {
+        Err(error) if error.kind() == ErrorKind::NotFound => return Ok(()),
+        // It may be somebody else's, who was killed before it had its rights.
+        Err(error) if error.kind() == ErrorKind::PermissionDenied => None,
+        opened => Some(opened?),
+    };
+    open.as_ref().map_or(Ok(()), take_lock)?;
+    fs::remove_file(path)
+}
+
+#[cfg(test)]
+mod tests {
+    use std::{env, process};
+
+    use super::*;
+
+    /// Who has the lock has the file that its name leads to, however often others replace it.
+    #[test]
+    fn a_lock_is_of_the_file_in_place() {
+        let folder = env::temp_dir().join(format!("kveldrim-disk-{}", process::id()));
+        fs::create_dir(&folder).unwrap();
+        let file = folder.join("t");
+        fs::write(&file, b"").unwrap();
+        let replace = |new: &Path| {
+            let open = loop {
+                match lock(&file, Duration::ZERO) {
+                    Err(error) if is_busy(&error) => thread::yield_now(),
+                    locked => break locked.unwrap(),
+                }
+            };
+            assert!(is_at(&open, &file).unwrap());
+            let new_open = File::create_new(new).unwrap();
+            take_lock(&new_open).unwrap();
+            fs::rename(new, &file).unwrap();
+        };
+        thread::scope(|scope| {
+            for editor in ["a", "b", "c"] {
+                let (folder, replace) = (&folder, &replace);
+                scope.spawn(move || (0..1_000).for_each(|_| replace(&folder.join(editor))));
+            }
+        });
+        fs::remove_dir_all(folder).unwrap();
     }
 }

@@ -147,6 +147,9 @@ fn make(
     let before = document.file().to_vec();
     let told = calls(&mut document).map_err(|refusal| match refusal.kind {
         Kind::Damaged => store.damaged(),
+        Kind::Nothing => store
+            .left_behind()
+            .unwrap_or_else(|| refused(document.file(), refusal)),
         _ => refused(document.file(), refusal),
     })?;
     match manner.dry_run {
@@ -209,6 +212,9 @@ fn is_unread(key: &[u8]) -> bool {
 pub fn log(log: &Log) -> ExitCode {
     let store = named(&log.file).and_then(|()| Store::look(&log.file, false));
     let told = store.and_then(|store| {
+        if let Some(trouble) = store.left_behind() {
+            trouble.tell();
+        }
         let document = store.document();
         let bytes = document.file().to_vec();
         edits(document).map_err(|refusal| match refusal.kind {

@@ -201,7 +201,7 @@ const KEYWORDS: &[&[u8]] = &[
 
 /// An argument as dash, bash and zsh read it: bare where it is surely one word, else in single quotes. zsh takes a word with
 /// `=` at its front for a command's path.
-fn quoted(argument: &[u8]) -> Vec<u8> {
+pub fn quoted(argument: &[u8]) -> Vec<u8> {
     let bare = |byte: &u8| byte.is_ascii_alphanumeric() || b"_-./:=@%+,".contains(byte);
     let is_bare = argument.iter().all(bare)
         && !argument.is_empty()

@@ -1,6 +1,7 @@
 //! The bytes of a journal's file: one file with its records, or two while a call is being written (docs/JOURNAL.md).
 
 use kveldrim::{FILE_BOUND, JOURNAL_BOUND};
+use sha2::{Digest, Sha256};
 
 /// A file and the journal that belongs to it.
 #[derive(Debug, Clone, PartialEq, Eq)]
@@ -22,10 +23,14 @@ impl Pair {
 }
 
 const MAGIC: &[u8] = b"kveldrim";
-const VERSION: u32 = 1;
+const VERSION: u32 = 2;
+/// The version without a digest.
+const FIRST: u32 = 1;
+/// The bytes of a digest, SHA-256.
+const DIGEST: usize = 32;
 
 /// The most bytes that a journal's file has.
-pub const MOST: usize = 16 + 2 * (12 + FILE_BOUND + JOURNAL_BOUND);
+pub const MOST: usize = 16 + 2 * (12 + FILE_BOUND + JOURNAL_BOUND) + DIGEST;
 
 /// The bytes of a journal's file with these pairs, the newest first.
 pub fn write(pairs: &[&Pair]) -> Vec<u8> {
@@ -38,18 +43,31 @@ pub fn write(pairs: &[&Pair]) -> Vec<u8> {
         bytes.extend(&pair.file);
         bytes.extend(&pair.records);
     }
+    bytes.extend(Sha256::digest(&bytes));
     bytes
 }
 
 /// The pairs of a journal's file, the newest first; none if the bytes are no such file.
 pub fn read(bytes: &[u8]) -> Option<Vec<Pair>> {
     let mut rest = bytes.strip_prefix(MAGIC)?;
-    let (version, pairs) = (number(&mut rest)?, number(&mut rest)?);
-    if version != VERSION || !(1..=2).contains(&pairs) {
+    match number(&mut rest)? {
+        VERSION => rest = number_and_pairs(bytes, rest)?,
+        FIRST => {}
+        _ => return None,
+    }
+    let pairs = number(&mut rest)?;
+    if !(1..=2).contains(&pairs) {
         return None;
     }
     let pairs = (0..pairs).map(|_| read_pair(&mut rest)).collect();
     rest.is_empty().then_some(pairs)?
+}
+
+/// What stands before the digest, if that is of all bytes before it.
+fn number_and_pairs<'a>(bytes: &[u8], rest: &'a [u8]) -> Option<&'a [u8]> {
+    let (rest, digest) = rest.split_last_chunk::<DIGEST>()?;
+    let before = &bytes[..bytes.len() - DIGEST];
+    (Sha256::digest(before)[..] == digest[..]).then_some(rest)
 }
 
 fn read_pair(rest: &mut &[u8]) -> Option<Pair> {
@@ -101,35 +119,75 @@ mod tests {
         }
     }
 
+    const NUMBERS: [u8; 20] = [
+        2, 0, 0, 0, 1, 0, 0, 0, 19, 0, 0, 0, 21, 0, 0, 0, 21, 0, 0, 0,
+    ];
+
+    /// The digest is what `sha256sum` tells of the bytes before it.
     #[test]
     fn layout() {
         let [new, _] = pairs();
-        let numbers: &[u8] = &[
-            1, 0, 0, 0, 1, 0, 0, 0, 19, 0, 0, 0, 21, 0, 0, 0, 21, 0, 0, 0,
-        ];
-        let expected = [b"kveldrim", numbers, &new.file, &new.records].concat();
-        assert_eq!(write(&[&new]), expected);
+        let expected = [b"kveldrim", &NUMBERS[..], &new.file, &new.records].concat();
+        let bytes = write(&[&new]);
+        let (before, digest) = bytes.split_at(bytes.len() - 32);
+        assert_eq!(before, expected);
+        let digest: String = digest.iter().map(|byte| format!("{byte:02x}")).collect();
+        assert_eq!(
+            digest,
+            "a43b11c1dca6ab6faf22160d294fcdef667a1c702242a70bcb9decb8155e1bdb"
+        );
+    }
+
+    /// The same pairs in a file of version 1.
+    fn first_version(pairs: &[&Pair]) -> Vec<u8> {
+        let mut bytes = write(pairs);
+        bytes.truncate(bytes.len() - DIGEST);
+        bytes[8] = 1;
+        bytes
+    }
+
+    #[test]
+    fn version_1_is_read() {
+        let [new, _] = pairs();
+        let bytes =
+            b"kveldrim\x01\0\0\0\x01\0\0\0\x13\0\0\0\x15\0\0\0\x15\0\0\0[Desktop Entry]\nA=\n\
+            \x07\x07\x07\x07\x07\x07\x07\x07\x07\x07\x07\x07\x07\x07\x07\x07\x07\x07\x07\x07\x07";
+        assert_eq!(first_version(&[&new]), bytes);
+        assert_eq!(read(bytes), Some(vec![new]));
+    }
+
+    #[test]
+    fn a_changed_bit_is_refused() {
+        let [new, old] = pairs();
+        let mut bytes = write(&[&new, &old]);
+        for at in 0..8 * bytes.len() {
+            bytes[at / 8] ^= 1 << (at % 8);
+            assert_eq!(read(&bytes), None, "bit {at}");
+            bytes[at / 8] ^= 1 << (at % 8);
+        }
+        assert!(read(&bytes).is_some());
     }
 
     #[test]
     fn other_bytes_are_refused() {
         let [new, old] = pairs();
-        let bytes = write(&[&new, &old]);
-        for length in 0..bytes.len() {
-            assert_eq!(read(&bytes[..length]), None, "{length}");
+        for bytes in [write(&[&new, &old]), first_version(&[&new, &old])] {
+            for length in 0..bytes.len() {
+                assert_eq!(read(&bytes[..length]), None, "{length}");
+            }
+            assert_eq!(read(&[&bytes[..], b"x"].concat()), None);
         }
-        assert_eq!(read(&[&bytes[..], b"x"].concat()), None);
         // Magic, version, number of pairs, lengths, standing.
         for (at, byte) in [
             (0, b'K'),
-            (8, 2),
+            (8, 3),
             (12, 0),
             (12, 3),
             (17, 255),
             (22, 2),
             (24, 22),
         ] {
-            let mut wrong = bytes.clone();
+            let mut wrong = first_version(&[&new, &old]);
             wrong[at] = byte;
             assert_eq!(read(&wrong), None, "{at}");
         }

@@ -5,31 +5,49 @@
 use std::collections::BTreeMap;
 use std::env;
 use std::ffi::{OsStr, OsString};
-use std::fs;
+use std::fs::{self, File, Permissions};
+use std::os::unix::fs::{chown, MetadataExt, PermissionsExt};
 use std::path::{Path, PathBuf};
 use std::process::{self, Command, ExitCode};
 use std::sync::atomic::{AtomicU32, Ordering};
+use std::time::Duration;
 
+use nix::unistd::geteuid;
+
+use crate::attributes::Attributes;
+use crate::disk;
 use crate::journal::{self, Pair};
 use crate::store::Store;
 
 const WORDS: &str = "KVELDRIM_TEST_WORDS";
 const STEP: &str = "KVELDRIM_TEST_STEP";
 const CHANGE: &str = "KVELDRIM_TEST_CHANGE";
+const REPLACE: &str = "KVELDRIM_TEST_REPLACE";
+const LOCKED: &str = "KVELDRIM_TEST_LOCKED";
 
 /// What another program writes to the file.
 const OTHER: &[u8] = b"[Desktop Entry]\nName=other\n";
 
-/// Dies if this is the step to die at, or does what another program may do just then: changes the file.
+/// Asks whether the file is locked. If this is the step to do so, dies, or does what another program may do just then: changes
+/// the file, or puts another with the same bytes in its place.
 pub fn step() {
     static STEPS: AtomicU32 = AtomicU32::new(1);
+    if let Ok(file) = env::var(LOCKED) {
+        let other = disk::lock(Path::new(&file), Duration::ZERO);
+        assert!(other.is_err_and(|error| disk::is_busy(&error)));
+    }
     let Ok(last) = env::var(STEP) else {
         return;
     };
     if STEPS.fetch_add(1, Ordering::Relaxed).to_string() == last {
-        match env::var(CHANGE) {
-            Ok(file) => fs::write(file, OTHER).unwrap(),
-            Err(_) => process::abort(),
+        match (env::var(CHANGE), env::var(REPLACE)) {
+            (Ok(file), _) => fs::write(file, OTHER).unwrap(),
+            (_, Ok(file)) => {
+                let copy = format!("{file}-copy");
+                fs::copy(&file, &copy).unwrap();
+                fs::rename(copy, file).unwrap();
+            }
+            _ => process::abort(),
         }
     }
 }
@@ -58,16 +76,20 @@ impl Place {
         let place = Place(env::temp_dir().join(name));
         fs::create_dir(&place.0).unwrap();
         for (name, bytes) in content {
-            fs::write(place.0.join(name), bytes).unwrap();
+            let path = place.0.join(name);
+            fs::write(&path, bytes).unwrap();
+            fs::set_permissions(path, Permissions::from_mode(0o644)).unwrap();
         }
         place
     }
 
+    /// A file that is being written may have no rights yet; it then counts as empty.
     fn content(&self) -> Folder {
         let entries = fs::read_dir(&self.0).unwrap();
+        let bytes = |entry: &fs::DirEntry| fs::read(entry.path()).unwrap_or_default();
         entries
             .map(|entry| entry.unwrap())
-            .map(|entry| (entry.file_name(), fs::read(entry.path()).unwrap()))
+            .map(|entry| (entry.file_name(), bytes(&entry)))
             .collect()
     }
 
@@ -156,13 +178,11 @@ fn killed_at_each_step(setup: &[&[&str]], words: &[&str]) {
         }
         // What a killed run leaves behind is gone after the next edit.
         assert!(place.run(&["set", "Last", "1"], None));
-        let own = |name: &&OsString| {
-            let name = name.to_string_lossy();
-            name.ends_with("new") || name.ends_with("lock")
-        };
-        assert_eq!(place.content().keys().find(own), None, "step {steps}");
+        let aside = |name: &&OsString| name.to_string_lossy().ends_with("new");
+        assert_eq!(place.content().keys().find(aside), None, "step {steps}");
     }
-    assert!(steps >= 12, "{steps}");
+    // Three files are written aside in eight steps each, and renamed in two.
+    assert!(steps >= 30, "{steps}");
 }
 
 /// Whether every journal's records of before are somewhere in the folder.
@@ -221,12 +241,10 @@ fn a_new_journal() {
     killed_at_each_step(EDITS, &["set", "Name", "x", "--discard-journal"]);
 }
 
-/// Another program changes the file while an edit is under way. Up to the last step before the file is replaced, its bytes
-/// stay and the edit is refused; the journal keeps all that it had.
-#[test]
-fn a_change_during_an_edit() {
-    let file = b"[Desktop Entry]\nName=Lesen\n";
-    let first = Place::with(&Folder::from([("t".into(), file.to_vec())]));
+/// Another program changes the file while an edit is under way, in one of two ways. Up to the last step before the file is
+/// replaced, its bytes stay and the edit is refused; the journal keeps all that it had.
+fn changed_at_each_step(how: &str, bytes: &[u8]) {
+    let first = Place::with(&Folder::from([("t".into(), b"[Desktop Entry]\n".to_vec())]));
     assert!(first.run(&["set", "Name", "Les"], None));
     let start = first.content();
     let mut refused = 0;
@@ -235,18 +253,96 @@ fn a_change_during_an_edit() {
         let mut command = place.command(&["set", "Name", "Lesung"]);
         let outcome = command
             .env(STEP, step.to_string())
-            .env(CHANGE, place.file())
+            .env(how, place.file())
             .output();
         let done = outcome.unwrap().status.success();
         if done {
             break;
         }
         refused += 1;
-        assert_eq!(fs::read(place.file()).unwrap(), OTHER);
+        assert_eq!(fs::read(place.file()).unwrap(), bytes);
         keeps_journal(&start, &place.content());
     }
     // Two files are written aside and the journal is renamed.
-    assert_eq!(refused, 10);
+    assert_eq!(refused, 2 * 8 + 2);
+}
+
+#[test]
+fn a_change_during_an_edit() {
+    changed_at_each_step(CHANGE, OTHER);
+}
+
+#[test]
+fn a_replacement_during_an_edit() {
+    changed_at_each_step(REPLACE, b"[Desktop Entry]\nName=Les\n");
+}
+
+/// Whatever the folder would give to new files, and at whatever step a run is killed: nobody but who edits has a right to a
+/// file beside the edited one that he does not have to that.
+fn no_more_rights(owner: u32, mode: u32, list: &str) {
+    for step in 1.. {
+        let file = b"[Desktop Entry]\nName=Lesen\n";
+        let place = Place::with(&Folder::from([("t".into(), file.to_vec())]));
+        chown(place.file(), Some(owner), None).unwrap();
+        fs::set_permissions(place.file(), Permissions::from_mode(mode)).unwrap();
+        if !list.is_empty() {
+            setfacl(&["-m", list], &place.file());
+        }
+        setfacl(&["-d", "-m", "u:8:rwx,g:9:rwx,o::rwx"], &place.0);
+        let access = |path: &Path| Attributes::of(&File::open(path).unwrap()).unwrap().access;
+        let expected = access(&place.file());
+        let done = place.run(&["set", "Name", "Les"], Some(step));
+        for name in place.content().keys() {
+            let path = place.0.join(name);
+            let found = fs::metadata(&path).unwrap();
+            let mode = found.mode() & 0o7777;
+            // With a mask of nothing, nothing in a list counts.
+            let of_editor = found.uid() == geteuid().as_raw() && mode & 0o7077 == 0;
+            assert!(
+                of_editor || mode == 0 || access(&path) == expected,
+                "step {step}: {name:?}"
+            );
+        }
+        if done {
+            assert_eq!(access(&place.0.join(".t.kveldrim-journal")), expected);
+            assert!(step > 30, "{step}");
+            break;
+        }
+    }
+}
+
+#[test]
+fn no_more_rights_at_any_step() {
+    let own = geteuid().as_raw();
+    no_more_rights(own, 0o640, "");
+    no_more_rights(own, 0o640, "u:7:r,g:9:rw");
+}
+
+#[test]
+fn no_more_rights_for_an_owner_as_root() {
+    let own = geteuid().as_raw();
+    assert_eq!(own, 0, "this test gives a file away: run it as root");
+    no_more_rights(5, 0o440, "");
+    no_more_rights(5, 0o440, "u:7:r");
+}
+
+fn setfacl(words: &[&str], path: &Path) {
+    let set = Command::new("setfacl").args(words).arg(path).status();
+    let set = set.expect("the command `setfacl`, of Debian's package acl");
+    assert!(set.success(), "{words:?}");
+}
+
+/// The old file and then the new one are locked from the first step to the last.
+#[test]
+fn locked_at_every_step() {
+    let place = Place::with(&Folder::from([("t".into(), b"[Desktop Entry]\n".to_vec())]));
+    let mut command = place.command(&["set", "Name", "Les"]);
+    let outcome = command.env(LOCKED, place.file()).output().unwrap();
+    let told = String::from_utf8_lossy(&outcome.stderr);
+    assert!(outcome.status.success(), "{told}");
+    let done = disk::lock(&place.file(), Duration::ZERO);
+    assert!(done.is_ok());
+    assert_eq!(found(&place.file()).file, b"[Desktop Entry]\nName=Les\n");
 }
 
 /// Files that a killed run left half written are no matter.
@@ -254,7 +350,7 @@ fn a_change_during_an_edit() {
 fn leftovers() {
     let file = b"[Desktop Entry]\nName=Lesen\n";
     let mut content = Folder::from([("t".into(), file.to_vec())]);
-    for end in ["new", "journal-new", "lock"] {
+    for end in ["new", "journal-new"] {
         content.insert(format!(".t.kveldrim-{end}").into(), b"[Desk".to_vec());
     }
     let place = Place::with(&content);

@@ -3,7 +3,9 @@
 
 #![forbid(unsafe_code)]
 
+mod access;
 mod arguments;
+mod attributes;
 mod check;
 mod disk;
 mod editing;
@@ -15,6 +17,7 @@ mod json;
 mod kills;
 mod locale;
 mod log;
+mod names;
 mod report;
 mod store;
 mod streams;

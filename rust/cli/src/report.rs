@@ -4,11 +4,13 @@
 use std::ffi::OsStr;
 use std::io::{self, IsTerminal, Write};
 use std::os::unix::ffi::OsStrExt;
+use std::path::Path;
 use std::process::ExitCode;
 
 use kveldrim::{Kind, Place, Refusal, DESKTOP_ENTRY};
 
 use crate::excerpt::excerpt;
+use crate::expand::quoted;
 
 /// A message, the exit status that goes with it, and what a terminal is shown besides.
 pub struct Trouble {
@@ -90,6 +92,21 @@ impl Trouble {
     pub fn busy(file: &OsStr) -> Trouble {
         let words = "another kveldrim is at work on this file just now; nothing was changed (--wait SECONDS waits for it)";
         Trouble::new(file, words, BUSY)
+    }
+
+    /// A file without a journal has just the bytes that a journal of no file belongs to.
+    pub fn left_behind(file: &OsStr, journal: &Path, own: &Path) -> Trouble {
+        let [from, to] = [journal, own].map(|path| quoted(path.as_os_str().as_bytes()));
+        let words = [
+            b"it has no journal, but seems to have been renamed: the journal ",
+            &shown(journal.file_name().unwrap_or_default())[..],
+            b" belongs to just these bytes (mv -n ",
+            &from,
+            b" ",
+            &to,
+            b" gives it back)",
+        ];
+        Trouble::new(file, words.concat(), REFUSED)
     }
 
     /// The file is not the one that its journal was written for.
@@ -258,7 +275,7 @@ pub fn shown(name: &OsStr) -> Vec<u8> {
 }
 
 /// What the operating system says, without its number.
-fn plain(error: &io::Error) -> String {
+pub fn plain(error: &io::Error) -> String {
     let words = error.to_string();
     match words.find(" (os error ") {
         Some(end) => words[..end].into(),

@@ -1,78 +1,83 @@
 //! A file with its journal, taken from disk and put back together.
 
 use std::ffi::{OsStr, OsString};
-use std::fs::{self, Metadata, OpenOptions};
-use std::io::{self, ErrorKind};
+use std::fs::File;
+use std::io;
+use std::time::Duration;
 
 use kveldrim::{Document, FILE_BOUND};
 
-use crate::disk::{self, Lock, Names, Replacement};
+use crate::disk::{self, Replacement};
 use crate::journal::{self, Pair};
+use crate::names::{journals_without_file, Names};
 use crate::report::Trouble;
+
+/// How often a reader starts again where the file is replaced while it reads.
+const READINGS: u32 = 1_000;
 
 /// A file that is being edited or told about.
 pub struct Store {
     given: OsString,
     names: Names,
-    like: Metadata,
-    _lock: Option<Lock>,
+    /// Locked while it is being edited.
+    open: File,
     before: Pair,
+    has_journal: bool,
     aside: Option<Vec<u8>>,
 }
 
 impl Store {
-    /// Opens a file for an edit. With `discard` its journal is put aside when the edit is saved, and a new one starts.
-    pub fn edit(file: &OsStr, discard: bool, _wait: std::time::Duration) -> Result<Store, Trouble> {
-        let uneditable = |error: io::Error| Trouble::uneditable(file, &error);
+    /// Opens a file for an edit, and waits so long for another editor to end. With `discard` its journal is put aside when
+    /// the edit is saved, and a new one starts.
+    pub fn edit(file: &OsStr, discard: bool, wait: Duration) -> Result<Store, Trouble> {
         let names = Names::of(file).map_err(|error| Trouble::unreadable(file, &error))?;
-        // A rename would replace a file that may not be written.
-        OpenOptions::new()
-            .write(true)
-            .open(&names.file)
-            .map_err(uneditable)?;
-        let lock = Lock::of(&names).map_err(uneditable)?;
-        let lock = lock.ok_or_else(|| Trouble::busy(file))?;
-        Store::read(file, names, Some(lock), discard)
+        let open = disk::lock(&names.file, wait).map_err(|error| uneditable(file, &error))?;
+        let foreign = Trouble::foreign(file, &names.journal_name());
+        Store::of(file, names, open, discard)?.ok_or(foreign)
     }
 
-    /// Opens a file to tell of it. Where nothing can be written, nobody else edits it either.
-    pub fn look(file: &OsStr, _discard: bool) -> Result<Store, Trouble> {
-        let names = Names::of(file).map_err(|error| Trouble::unreadable(file, &error))?;
-        let lock = match Lock::of(&names) {
-            Ok(None) => return Err(Trouble::busy(file)),
-            Ok(lock) => lock,
-            Err(_) => None,
-        };
-        Store::read(file, names, lock, false)
+    /// Opens a file to tell of it. A reader needs no lock: the journal that is there has always a pair for the file that is
+    /// there, and where both were not read at one moment, they are read again. With `discard` it is as if the journal were
+    /// put aside.
+    pub fn look(file: &OsStr, discard: bool) -> Result<Store, Trouble> {
+        for _ in 0..READINGS {
+            if let Some(store) = Store::look_once(file, discard)? {
+                return Ok(store);
+            }
+        }
+        Err(Trouble::busy(file))
     }
 
-    fn read(
-        file: &OsStr,
-        names: Names,
-        lock: Option<Lock>,
-        discard: bool,
-    ) -> Result<Store, Trouble> {
-        let unreadable = |error: io::Error| Trouble::unreadable(file, &error);
-        let like = fs::metadata(&names.file).map_err(unreadable)?;
-        let bytes = disk::read(&names.file, FILE_BOUND).map_err(unreadable)?;
-        let journal = match disk::read(&names.journal(), journal::MOST) {
-            Ok(journal) => Some(journal),
-            Err(error) if error.kind() == ErrorKind::NotFound => None,
-            Err(error) => return Err(Trouble::unreadable(&names.journal_name(), &error)),
-        };
-        let (before, aside) = match journal {
-            Some(journal) if discard => (Pair::new(bytes), Some(journal)),
-            Some(journal) => (belonging(file, &names, bytes, &journal)?, None),
-            None => (Pair::new(bytes), None),
-        };
-        Ok(Store {
+    /// The file as it is; none if an editor has put another in its place meanwhile, and the journal read belongs to that.
+    fn look_once(file: &OsStr, discard: bool) -> Result<Option<Store>, Trouble> {
+        let unreadable = |error| Trouble::unreadable(file, &error);
+        let names = Names::of(file).map_err(unreadable)?;
+        let (open, seen) = disk::open(&names.file).map_err(unreadable)?;
+        let path = names.file.clone();
+        let foreign = Trouble::foreign(file, &names.journal_name());
+        match Store::of(file, names, open, discard)? {
+            None if disk::stands_still(&path, &seen) => Err(foreign),
+            store => Ok(store),
+        }
+    }
+
+    /// An open file with the journal that is there; none if that is of other bytes.
+    fn of(file: &OsStr, names: Names, open: File, discard: bool) -> Result<Option<Store>, Trouble> {
+        let unreadable = |error| Trouble::unreadable(file, &error);
+        let bytes = disk::content(&open, FILE_BOUND).map_err(unreadable)?;
+        let mut journal =
+            disk::read_journal(&names.journal(), journal::MOST).map_err(unreadable)?;
+        let has_journal = journal.is_some();
+        let aside = journal.take_if(|_| discard);
+        let before = belonging(file, &names, bytes, journal)?;
+        Ok(before.map(|before| Store {
             given: file.into(),
             names,
-            like,
-            _lock: lock,
+            open,
             before,
+            has_journal,
             aside,
-        })
+        }))
     }
 
     /// The file and its journal, to be edited.
@@ -90,6 +95,30 @@ impl Store {
         Trouble::damaged(&self.given, &self.names.journal_name())
     }
 
+    /// Where the file has no journal: one in its folder that belongs to just its bytes and to no other file there. The file
+    /// seems to have been renamed.
+    pub fn left_behind(&self) -> Option<Trouble> {
+        if self.has_journal {
+            return None;
+        }
+        let folder = &self.names.folder;
+        let journals = journals_without_file(folder).ok()?;
+        let belongs = |name: &OsString| {
+            let journal = disk::read_journal(&folder.join(name), journal::MOST);
+            let pairs = journal
+                .ok()
+                .flatten()
+                .and_then(|bytes| journal::read(&bytes));
+            pairs.is_some_and(|pairs| pairs.iter().any(|pair| pair.file == self.before.file))
+        };
+        let journal = folder.join(journals.into_iter().find(belongs)?);
+        Some(Trouble::left_behind(
+            &self.given,
+            &journal,
+            &self.names.journal(),
+        ))
+    }
+
     /// Puts the edited file and its journal on disk: both, or neither.
     pub fn save(&self, document: &Document) -> Result<(), Trouble> {
         let after = Pair {
@@ -104,16 +133,153 @@ impl Store {
             settled: &journal::write(&[&after]),
             aside: self.aside.as_deref(),
         };
-        disk::replace(&self.names, &self.like, &replacement)
-            .map_err(|error| Trouble::uneditable(&self.given, &error))
+        disk::replace(&self.names, &self.open, &replacement)
+            .map_err(|error| uneditable(&self.given, &error))
     }
 }
 
-/// The pair of a journal that is of just this file: the newest, if it is of several.
-fn belonging(file: &OsStr, names: &Names, bytes: Vec<u8>, journal: &[u8]) -> Result<Pair, Trouble> {
-    let name = names.journal_name();
-    let pairs = journal::read(journal).ok_or_else(|| Trouble::damaged(file, &name))?;
-    let belongs = |pair: &Pair| pair.file == bytes;
-    let pair = pairs.into_iter().find(belongs);
-    pair.ok_or_else(|| Trouble::foreign(file, &name))
+fn uneditable(file: &OsStr, error: &io::Error) -> Trouble {
+    match disk::is_busy(error) {
+        true => Trouble::busy(file),
+        false => Trouble::uneditable(file, error),
+    }
+}
+
+/// The pair of a journal that is of just this file: the newest, if it is of several. Without a journal there are no edits yet.
+fn belonging(
+    file: &OsStr,
+    names: &Names,
+    bytes: Vec<u8>,
+    journal: Option<Vec<u8>>,
+) -> Result<Option<Pair>, Trouble> {
+    let Some(journal) = journal else {
+        return Ok(Some(Pair::new(bytes)));
+    };
+    let pairs = journal::read(&journal);
+    let pairs = pairs.ok_or_else(|| Trouble::damaged(file, &names.journal_name()))?;
+    Ok(pairs.into_iter().find(|pair| pair.file == bytes))
+}
+
+#[cfg(test)]
+mod tests {
+    use std::path::PathBuf;
+    use std::sync::atomic::{AtomicBool, Ordering};
+    use std::time::Instant;
+    use std::{env, fs, process, thread};
+
+    use super::*;
+
+    const LONG: Duration = Duration::from_secs(60);
+
+    /// A file of a test's own, in a folder of its own, removed at the end.
+    struct Place(PathBuf);
+
+    impl Place {
+        fn new(name: &str) -> Place {
+            let name = format!("kveldrim-store-{}-{name}", process::id());
+            let place = Place(env::temp_dir().join(name));
+            fs::create_dir(&place.0).unwrap();
+            fs::write(place.file(), b"[Desktop Entry]\n").unwrap();
+            place
+        }
+
+        fn file(&self) -> PathBuf {
+            self.0.join("t")
+        }
+
+        /// Sets a key; the status of what went wrong.
+        fn set(&self, key: &str, wait: Duration) -> Result<(), u8> {
+            let saved = Store::edit(self.file().as_os_str(), false, wait).and_then(|store| {
+                let mut document = store.document();
+                document
+                    .set(b"Desktop Entry", key.as_bytes(), b"x")
+                    .unwrap();
+                store.save(&document)
+            });
+            saved.map_err(|trouble| trouble.status())
+        }
+    }
+
+    impl Drop for Place {
+        fn drop(&mut self) {
+            let _ = fs::remove_dir_all(&self.0);
+        }
+    }
+
+    #[test]
+    fn an_editor_waits_as_long_as_it_is_told() {
+        let place = Place::new("waits");
+        let open = disk::lock(&place.file(), Duration::ZERO).unwrap();
+        let start = Instant::now();
+        assert_eq!(place.set("A", Duration::ZERO), Err(75));
+        let wait = Duration::from_millis(100);
+        assert_eq!(place.set("A", wait), Err(75));
+        assert!(start.elapsed() >= wait);
+        thread::scope(|scope| {
+            scope.spawn(|| {
+                thread::sleep(wait);
+                drop(open);
+            });
+            let start = Instant::now();
+            assert_eq!(place.set("A", LONG), Ok(()));
+            assert!(start.elapsed() >= wait / 2);
+        });
+        let content = fs::read(place.file()).unwrap();
+        assert_eq!(content, b"[Desktop Entry]\nA=x\n");
+    }
+
+    #[test]
+    fn editors_that_wait_all_come_to_their_turn() {
+        let place = Place::new("turns");
+        thread::scope(|scope| {
+            for editor in 0..4 {
+                let place = &place;
+                scope.spawn(move || {
+                    for number in 0..12 {
+                        let key = format!("X-{editor}-{number}");
+                        assert_eq!(place.set(&key, LONG), Ok(()));
+                    }
+                });
+            }
+        });
+        let store = Store::look(place.file().as_os_str(), false);
+        let store = store.unwrap_or_else(|_| panic!("no pair belongs"));
+        let document = store.document();
+        assert_eq!(kveldrim::Edits::new(document.journal()).count(), 48);
+    }
+
+    /// A reader may find the file of before and the journal of after.
+    #[test]
+    fn readers_find_a_pair_at_any_time() {
+        let place = Place::new("readers");
+        let look = || Store::look(place.file().as_os_str(), false);
+        let done = AtomicBool::new(false);
+        thread::scope(|scope| {
+            for _ in 0..3 {
+                scope.spawn(|| {
+                    while !done.load(Ordering::Relaxed) {
+                        assert_eq!(look().err().map(|trouble| trouble.status()), None);
+                    }
+                });
+            }
+            for number in 0..150 {
+                // Until it starts its program, a child of another test has the locks of this process too.
+                let set = place.set(&format!("X-{number}"), LONG);
+                done.store(number == 149 || set.is_err(), Ordering::Relaxed);
+                assert_eq!(set, Ok(()));
+            }
+        });
+    }
+
+    #[test]
+    fn a_reader_may_pass_over_the_journal() {
+        let place = Place::new("passes");
+        assert_eq!(place.set("A", Duration::ZERO), Ok(()));
+        fs::write(place.file(), b"[Desktop Entry]\n# A\n").unwrap();
+        let look = |discard| Store::look(place.file().as_os_str(), discard);
+        assert_eq!(look(false).err().map(|trouble| trouble.status()), Some(1));
+        let store = look(true).unwrap_or_else(|_| panic!("it is refused"));
+        assert_eq!(store.document().file(), b"[Desktop Entry]\n# A\n");
+        assert_eq!(store.document().journal(), b"");
+    }
 }

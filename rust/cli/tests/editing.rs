@@ -3,13 +3,15 @@
 
 mod common;
 
-use std::fs::{self, File, Permissions};
-use std::os::unix::fs::{symlink, MetadataExt, PermissionsExt};
-use std::os::unix::process::CommandExt;
+use std::ffi::OsStr;
+use std::fs::{self, File};
+use std::os::unix::ffi::OsStrExt;
+use std::os::unix::fs::{symlink, MetadataExt};
 use std::process::Command;
 use std::thread;
 
-use common::{Folder, T};
+use common::{tool, Folder, Shared, T};
+use rustix::fs::{flock, FlockOperation};
 
 const JOURNAL: &str = ".t.kveldrim-journal";
 
@@ -124,7 +126,7 @@ fn refused_edits_change_nothing() {
     let refuses = |words: &[&str], told: &str| folder.refuses(1, words, told);
     refuses(
         &["set", "t", "Icon", "x", "--locale=de"],
-        "t: the key with a [locale] needs",
+        "t: this key has a [locale], but the same key without one is missing",
     );
     refuses(&["set", "t", "Na me", "x"], "t: the group, key or locale");
     refuses(
@@ -156,8 +158,8 @@ fn refused_edits_change_nothing() {
         &["set", "t", "Name", &"x".repeat(40_000)],
         "t: the file would be over 32,768",
     );
-    refuses(&["set", "bad", "Name", "x"], "bad:2:5: this line is not");
-    refuses(&["undo", "bad"], "bad:2:5: this line is not");
+    refuses(&["set", "bad", "Name", "x"], "bad:2:5: a line is not blank");
+    refuses(&["undo", "bad"], "bad:2:5: a line is not blank");
     refuses(
         &["set", "long", "Name", "x"],
         "long: the file is over 32,768 bytes",
@@ -229,18 +231,22 @@ fn a_change_by_another_program() {
     assert_eq!(folder.names(), aside);
 }
 
+const DAMAGED: &str = "t: its journal .t.kveldrim-journal is damaged (set and remove with";
+
 #[test]
 fn a_damaged_journal() {
     let folder = folder();
     folder.does(&["set", "t", "Name", "Les"]);
-    let sound = folder.read(JOURNAL);
     let edited = folder.read("t");
+    let sound = folder.read(JOURNAL);
+    // Version 1 has no digest, so what is wrong in it is found further in.
+    let sound = [&sound[..8], &[1], &sound[9..sound.len() - 32]].concat();
     let record = sound.len() - 26;
     // No journal at all, one cut short, one of another version, a record of another kind.
     let damaged = [
         Vec::new(),
         sound[..sound.len() - 1].to_vec(),
-        [&sound[..8], &[2], &sound[9..]].concat(),
+        [&sound[..8], &[3], &sound[9..]].concat(),
         [&sound[..record + 4], &[9], &sound[record + 5..]].concat(),
     ];
     let mut folder = folder;
@@ -251,46 +257,85 @@ fn a_damaged_journal() {
             &["undo", "t"],
             &["log", "t"],
         ] {
-            folder.refuses(
-                1,
-                words,
-                "t: its journal .t.kveldrim-journal is damaged (set and",
-            );
+            folder.refuses(1, words, DAMAGED);
         }
     }
     // A record that does not fit the file.
     let place = [&sound[..record + 6], &[1], &sound[record + 7..]].concat();
     let folder = folder.with(JOURNAL.as_bytes(), &place);
-    folder.refuses(
-        1,
-        &["undo", "t"],
-        "t: its journal .t.kveldrim-journal is damaged",
-    );
-    folder.refuses(
-        1,
-        &["log", "t"],
-        "t: its journal .t.kveldrim-journal is damaged",
-    );
+    folder.refuses(1, &["undo", "t"], DAMAGED);
+    folder.refuses(1, &["log", "t"], DAMAGED);
     folder.does(&["set", "t", "Name", "x", "--discard-journal"]);
     assert_eq!(folder.read(".t.kveldrim-journal-1"), place);
     folder.does(&["undo", "t"]);
     assert_eq!(folder.read("t"), edited);
 }
 
+/// A changed bit would make undo write a text that nobody wrote.
+#[test]
+fn a_changed_bit_in_the_journal() {
+    let folder = folder();
+    for text in ["Les", "Lesung", "Lesestunde"] {
+        folder.does(&["set", "t", "Name", text]);
+    }
+    folder.does(&["undo", "t"]);
+    let sound = folder.read(JOURNAL);
+    let lesen = sound.windows(5).position(|word| word == b"Lesen").unwrap();
+    let mut folder = folder;
+    for (at, bit) in [
+        (lesen, 32),
+        (8, 1),
+        (12, 2),
+        (30, 1),
+        (sound.len() - 1, 128),
+    ] {
+        let mut changed = sound.clone();
+        changed[at] ^= bit;
+        folder = folder.with(JOURNAL.as_bytes(), &changed);
+        for words in COMMANDS {
+            folder.refuses(1, words, DAMAGED);
+        }
+    }
+    let folder = folder.with(JOURNAL.as_bytes(), &sound);
+    folder.does(&["undo", "t"]);
+    folder.does(&["undo", "t"]);
+    assert_eq!(folder.read("t"), T);
+}
+
+/// A journal as the version before wrote it: its edits are there, and the next edit writes version 2.
+#[test]
+fn a_journal_of_version_1() {
+    let journal =
+        b"kveldrim\x01\0\0\0\x01\0\0\0\x1b\0\0\0\x1a\0\0\0\x1a\0\0\0[Desktop Entry]\nName=Lesen\n\
+        \x1a\0\0\0\x01\0\x15\0\0\0\x03\0\0\0\x05\0\0\0LesLesen";
+    let folder = Folder::new()
+        .with(b"t", b"[Desktop Entry]\nName=Lesen\n")
+        .with(JOURNAL.as_bytes(), journal);
+    folder.logs("stands: Name in Desktop Entry: \"Les\" became \"Lesen\"\n");
+    assert_eq!(folder.read(JOURNAL), journal);
+    folder.does(&["undo", "t"]);
+    folder.holds("[Desktop Entry]\nName=Les\n");
+    assert_eq!(folder.read(JOURNAL)[..12], *b"kveldrim\x02\0\0\0");
+    folder.does(&["redo", "t"]);
+    folder.holds("[Desktop Entry]\nName=Lesen\n");
+}
+
 #[test]
 fn two_editors_at_once() {
     let folder = folder();
     folder.does(&["set", "t", "Name", "Les"]);
-    let path = folder.0.join(".t.kveldrim-lock");
-    let other = File::create(&path).unwrap();
-    other.lock().unwrap();
+    let other = File::open(folder.0.join("t")).unwrap();
+    flock(&other, FlockOperation::LockExclusive).unwrap();
     let told = "t: another kveldrim is at work on this file just now; nothing was changed";
-    for words in COMMANDS {
-        folder.refuses(1, words, told);
+    let (log, edits) = COMMANDS.split_last().unwrap();
+    for words in edits {
+        folder.refuses(75, words, told);
     }
-    // Reading needs no lock, and a lock ends with its holder, even if its file stays.
+    // Reading needs no lock, and a lock ends with its holder.
     folder.run(&[b"get", b"t", b"Name"]).writes(b"Les\n");
-    other.unlock().unwrap();
+    assert_eq!(*log, ["log", "t"]);
+    folder.logs("stands: Name in Desktop Entry: \"Lesen\" became \"Les\"\n");
+    flock(&other, FlockOperation::Unlock).unwrap();
     folder.does(&["undo", "t"]);
     assert_eq!(folder.names(), [JOURNAL, "t"]);
 }
@@ -308,7 +353,11 @@ fn many_editors_at_once() {
                         let key = format!("X-{editor}-{number}");
                         let outcome = folder.run(&[b"set", b"t", key.as_bytes(), b"x"]);
                         let busy = outcome.told.starts_with(b"t: another kveldrim");
-                        assert!(outcome.status == 0 || busy);
+                        let told = String::from_utf8_lossy(&outcome.told);
+                        assert!(
+                            outcome.status == 0 || outcome.status == 75 && busy,
+                            "{told}"
+                        );
                         outcome.status == 0
                     };
                     (0..12).filter(made).count()
@@ -330,12 +379,28 @@ fn many_editors_at_once() {
     assert_eq!(folder.names(), [JOURNAL, "t"]);
 }
 
+/// Another program has put a new file in the place of one that is being edited. The files that its editor is writing aside
+/// are left to him.
+#[test]
+fn files_that_another_editor_writes() {
+    for name in [".t.kveldrim-new", ".t.kveldrim-journal-new"] {
+        let folder = folder().with(name.as_bytes(), b"[Desk");
+        let other = File::open(folder.0.join(name)).unwrap();
+        flock(&other, FlockOperation::LockExclusive).unwrap();
+        let told = "t: another kveldrim is at work on this file just now; nothing was changed";
+        folder.refuses(75, &["set", "t", "Name", "x"], told);
+        flock(&other, FlockOperation::Unlock).unwrap();
+        folder.does(&["set", "t", "Name", "x"]);
+        assert_eq!(folder.names(), [JOURNAL, "t"]);
+    }
+}
+
 #[test]
 fn rights_stay_and_links_are_followed() {
     let folder = folder();
     fs::create_dir(folder.0.join("real")).unwrap();
     fs::rename(folder.0.join("t"), folder.0.join("real/f")).unwrap();
-    fs::set_permissions(folder.0.join("real/f"), Permissions::from_mode(0o640)).unwrap();
+    folder.mode("real/f", 0o640);
     symlink("real/f", folder.0.join("t")).unwrap();
     folder.does(&["set", "t", "Name", "Les"]);
     folder.does(&["set", "real/f", "Name", "Lesen und Schreiben"]);
@@ -362,68 +427,223 @@ fn names_that_are_not_utf8() {
     folder.run(&[b"get", b"f\xFF", b"Name"]).writes(b"Lesen\n");
 }
 
-/// Somebody whom rights bind, if root runs the tests.
-fn bound_by_rights(command: &mut Command) {
-    if fs::metadata("/proc/self").is_ok_and(|own| own.uid() == 0) {
-        command.uid(65_534).gid(65_534);
-    }
-}
-
 #[test]
-fn a_folder_or_a_file_that_cannot_be_written() {
+fn a_folder_or_a_file_that_cannot_be_written_as_root() {
     let folder = folder();
     folder.does(&["set", "t", "Name", "Les"]);
-    // A copy of the command lies where everybody can reach it.
-    let copy = folder.0.join("kveldrim");
-    fs::copy(env!("CARGO_BIN_EXE_kveldrim"), &copy).unwrap();
-    let mut version = Command::new(&copy);
-    bound_by_rights(&mut version);
-    if version.arg("--version").output().is_err() {
-        // Root cannot become another here.
-        return;
-    }
-    let run = |words: &[&[u8]]| {
-        let mut command = Command::new(&copy);
-        bound_by_rights(&mut command);
-        folder.run_by(command, words)
-    };
+    let shared = Shared::new();
+    let run = |words: &[&[u8]]| folder.run_by(shared.command(65_534, 65_534, None), words);
     let before = folder.all();
     let refuses = |words: &[&[u8]]| {
         run(words).tells(2, &["t: cannot be edited: Permission denied"]);
         assert_eq!(folder.all(), before);
     };
-    let rights = |name: &str, mode| {
-        fs::set_permissions(folder.0.join(name), Permissions::from_mode(mode)).unwrap();
-    };
     // The folder is read-only, and the file is not.
-    rights("t", 0o666);
-    rights(".", 0o555);
+    folder.mode("t", 0o666);
+    folder.mode(".", 0o555);
     refuses(&[b"set", b"t", b"Name", b"x"]);
     refuses(&[b"undo", b"t"]);
     run(&[b"log", b"t"]).writes(b"stands: Name in Desktop Entry: \"Lesen\" became \"Les\"\n");
     // The file is read-only, and the folder is not.
-    rights("t", 0o444);
-    rights(".", 0o777);
+    folder.mode("t", 0o444);
+    folder.mode(".", 0o777);
     refuses(&[b"set", b"t", b"Name", b"x"]);
     refuses(&[b"undo", b"t"]);
+    // The journal may not be read.
+    folder.mode("t", 0o666);
+    folder.mode(JOURNAL, 0o600);
+    let told = "t: cannot be read: its journal .t.kveldrim-journal may not be read";
+    run(&[b"log", b"t"]).tells(2, &[told]);
+    run(&[b"undo", b"t"]).tells(2, &[told]);
+    assert_eq!(folder.all(), before);
 }
 
-/// Where a name beside the file cannot be had, nothing is changed.
+/// What may stand where a plain file is expected.
+const KINDS: [&str; 4] = [
+    "a link to nothing",
+    "a link to another file",
+    "a FIFO",
+    "a folder",
+];
+
+/// A folder in which something of a kind has a name.
+fn taken(name: &str, kind: &str) -> Folder {
+    let folder = folder().with(b"other", b"other");
+    folder.does(&["set", "t", "Name", "Les"]);
+    let path = folder.0.join(name);
+    let _ = fs::remove_file(&path);
+    match kind {
+        "a link to nothing" => symlink("none", &path).unwrap(),
+        "a link to another file" => symlink("other", &path).unwrap(),
+        "a FIFO" => drop(tool("mkfifo", "coreutils", &[], &path)),
+        _ => fs::create_dir(&path).unwrap(),
+    }
+    folder
+}
+
+/// Every name in a folder, with what a link there leads to and the bytes of a plain file.
+fn everything(folder: &Folder) -> Vec<(String, String)> {
+    let names = folder.names().into_iter();
+    let what = |name: &str| {
+        let path = folder.0.join(name);
+        let kind = fs::symlink_metadata(&path).unwrap().file_type();
+        let link = fs::read_link(&path).ok();
+        let bytes = kind.is_file().then(|| folder.read(name));
+        format!("{kind:?} {link:?} {bytes:?}")
+    };
+    names.map(|name| (name.clone(), what(&name))).collect()
+}
+
+/// Where a name beside the file is taken by something that is not a plain file, nothing is changed.
 #[test]
 fn names_that_are_taken() {
-    for end in ["new", "journal-new", "lock", "journal"] {
-        let folder = folder();
-        folder.does(&["set", "t", "Name", "Les"]);
-        let taken = folder.0.join(format!(".t.kveldrim-{end}"));
-        let _ = fs::remove_file(&taken);
-        fs::create_dir(&taken).unwrap();
-        fs::write(taken.join("x"), b"").unwrap();
-        let before = folder.all();
-        let outcome = folder.run(&[b"set", b"t", b"Name", b"x"]);
-        // A folder can be locked as well as a file.
-        if end != "lock" {
-            assert_eq!(outcome.status, 2, "{end}");
-            assert_eq!(folder.all(), before);
+    let set: &[&str] = &["set", "t", "Name", "x"];
+    for kind in KINDS {
+        for name in [".t.kveldrim-new", ".t.kveldrim-journal-new"] {
+            let folder = taken(name, kind);
+            let before = everything(&folder);
+            let told = format!("t: cannot be edited: {name} beside it is not a plain file");
+            folder.run_in_time(set).tells(2, &[&told]);
+            assert_eq!(everything(&folder), before, "{name} is {kind}");
+        }
+        let folder = taken(JOURNAL, kind);
+        let before = everything(&folder);
+        let told = format!("t: cannot be read: its journal {JOURNAL} is not a plain file");
+        let discard = &["set", "t", "Name", "x", "--discard-journal"];
+        for words in COMMANDS.iter().copied().chain([&discard[..]]) {
+            folder.run_in_time(words).tells(2, &[&told]);
+            assert_eq!(everything(&folder), before, "{JOURNAL} is {kind}");
         }
     }
+}
+
+/// The name of the lock that a version before had is nothing to this one; for a journal that is put aside the next name serves.
+#[test]
+fn names_that_are_passed_over() {
+    for kind in KINDS {
+        for name in [".t.kveldrim-lock", ".t.kveldrim-journal-1"] {
+            let folder = taken(name, kind);
+            let there = |folder: &Folder| {
+                let mut all = everything(folder);
+                all.retain(|(found, _)| found == name || found == "other");
+                all
+            };
+            let before = there(&folder);
+            let journal = folder.read(JOURNAL);
+            let discard = &["set", "t", "Name", "x", "--discard-journal"];
+            folder.run_in_time(discard).writes(b"");
+            folder.run_in_time(&["undo", "t"]).writes(b"");
+            folder
+                .run_in_time(&["log", "t"])
+                .writes(b"waits: Name in Desktop Entry: \"Les\" became \"x\"\n");
+            assert_eq!(there(&folder), before, "{name} is {kind}");
+            let aside = match name {
+                ".t.kveldrim-lock" => ".t.kveldrim-journal-1",
+                _ => ".t.kveldrim-journal-2",
+            };
+            assert_eq!(folder.read(aside), journal);
+        }
+    }
+}
+
+#[test]
+fn a_file_that_is_not_plain() {
+    let folder = Folder::new();
+    tool("mkfifo", "coreutils", &[], &folder.0.join("t"));
+    symlink("t", folder.0.join("link")).unwrap();
+    for name in ["t", "link"] {
+        for words in COMMANDS {
+            let words = [&words[..1], &[name], &words[2..]].concat();
+            let told = format!("{name}: cannot be read: it is not a plain file");
+            folder.run_in_time(&words).tells(2, &[&told]);
+        }
+    }
+    assert_eq!(folder.names(), ["link", "t"]);
+}
+
+/// Names of up to 255 bytes, some of which differ at their end only.
+#[test]
+fn long_names() {
+    let folder = Folder::new();
+    let names: Vec<Vec<u8>> = [
+        "x".repeat(230),
+        "x".repeat(231),
+        "x".repeat(255),
+        format!("{}y", "x".repeat(254)),
+        "\u{E4}".repeat(127),
+    ]
+    .map(String::into_bytes)
+    .into_iter()
+    .chain([vec![0xFF; 255]])
+    .collect();
+    for (number, name) in names.iter().enumerate() {
+        fs::write(folder.0.join(OsStr::from_bytes(name)), T).unwrap();
+        let text = number.to_string();
+        folder
+            .run(&[b"set", name, b"Name", text.as_bytes()])
+            .writes(b"");
+    }
+    for (number, name) in names.iter().enumerate() {
+        let line = format!("stands: Name in Desktop Entry: \"Lesen\" became \"{number}\"\n");
+        folder.run(&[b"log", name]).writes(line.as_bytes());
+        folder
+            .run(&[b"set", name, b"Name", b"x", b"--discard-journal"])
+            .writes(b"");
+        folder.run(&[b"undo", name]).writes(b"");
+        folder
+            .run(&[b"get", name, b"Name"])
+            .writes(format!("{number}\n").as_bytes());
+    }
+    // Each has a journal and one that was put aside.
+    assert_eq!(fs::read_dir(&folder.0).unwrap().count(), 3 * names.len());
+}
+
+/// A file that was renamed without its journal.
+#[test]
+fn a_renamed_file() {
+    let folder = folder().with(b"other", T);
+    folder.does(&["set", "t", "Name", "Les"]);
+    folder.does(&["set", "other", "Name", "x"]);
+    fs::rename(folder.0.join("t"), folder.0.join("it's new")).unwrap();
+    let log = folder.run(&[b"log", b"it's new"]);
+    assert_eq!(log.out, b"no edit is recorded\n");
+    assert_eq!(log.status, 0);
+    let told = String::from_utf8(log.told).unwrap();
+    let start = "it's new: it has no journal, but seems to have been renamed: the journal \
+        .t.kveldrim-journal belongs to just these bytes (mv -n '";
+    assert!(told.starts_with(start), "{told}");
+    for step in ["undo", "redo"] {
+        folder.refuses(1, &[step, "it's new"], start);
+    }
+    // The command that is told does it, wherever it is run.
+    let (_, command) = told.split_once('(').unwrap();
+    let (command, _) = command.split_once(" gives it back)").unwrap();
+    let moved = Command::new("sh")
+        .args(["-c", command])
+        .current_dir("/")
+        .status();
+    assert!(moved.unwrap().success(), "{command}");
+    folder.does(&["undo", "it's new"]);
+    assert_eq!(folder.read("it's new"), T);
+}
+
+/// A journal is not offered to a file of other bytes, nor while the file that it is of is there.
+#[test]
+fn journals_that_are_not_left_behind() {
+    let folder = folder();
+    folder.does(&["set", "t", "Name", "Les"]);
+    let copy = folder.read("t");
+    let folder = folder.with(b"copy", &copy).with(b"other", T);
+    let nothing = |name: &str| {
+        let told = format!("{name}: there is nothing to undo");
+        folder.refuses(1, &["undo", name], &told);
+        folder
+            .run(&[b"log", name.as_bytes()])
+            .writes(b"no edit is recorded\n");
+    };
+    nothing("copy");
+    fs::remove_file(folder.0.join("t")).unwrap();
+    nothing("other");
+    let told = "copy: it has no journal, but seems to have been renamed";
+    folder.refuses(1, &["undo", "copy"], told);
 }

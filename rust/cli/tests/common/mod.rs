@@ -6,7 +6,8 @@
 use std::ffi::{OsStr, OsString};
 use std::fs;
 use std::os::unix::ffi::{OsStrExt, OsStringExt};
-use std::path::PathBuf;
+use std::os::unix::fs::{MetadataExt, PermissionsExt};
+use std::path::{Path, PathBuf};
 use std::process::{self, Command};
 use std::sync::atomic::{AtomicU32, Ordering};
 
@@ -49,6 +50,19 @@ impl Folder {
         }
     }
 
+    /// Runs the command in the folder; one that has not ended after 20 seconds ends with status 124.
+    pub fn run_in_time(&self, words: &[&str]) -> Outcome {
+        let mut command = Command::new("timeout");
+        command.args(["20", env!("CARGO_BIN_EXE_kveldrim")]);
+        let words: Vec<&[u8]> = words.iter().map(|word| word.as_bytes()).collect();
+        self.run_by(command, &words)
+    }
+
+    /// Sets the mode of a file in the folder.
+    pub fn mode(&self, name: &str, mode: u32) {
+        fs::set_permissions(self.0.join(name), fs::Permissions::from_mode(mode)).unwrap();
+    }
+
     /// Runs the command in the folder with a terminal, made by `script` of Debian's package bsdutils. Answers the status and
     /// all that the terminal was sent. The words are simple ones.
     pub fn run_on_terminal(&self, words: &[&str]) -> (i32, String) {
@@ -86,6 +100,53 @@ impl Drop for Folder {
     fn drop(&mut self) {
         let _ = fs::remove_dir_all(&self.0);
     }
+}
+
+/// A copy of the command that everybody can reach, for tests that become other users.
+pub struct Shared(Folder);
+
+impl Shared {
+    pub fn new() -> Shared {
+        let own = fs::metadata("/proc/self").unwrap();
+        assert_eq!(
+            own.uid(),
+            0,
+            "this test becomes other users: run it as root"
+        );
+        let folder = Folder::new();
+        folder.mode(".", 0o755);
+        // A copy by this process could still be open for writing in another test's child.
+        tool(
+            "cp",
+            "coreutils",
+            &[env!("CARGO_BIN_EXE_kveldrim")],
+            &folder.0,
+        );
+        Shared(folder)
+    }
+
+    /// The command as it is run by a user with a group and perhaps one more.
+    pub fn command(&self, user: u32, group: u32, more: Option<u32>) -> Command {
+        let mut command = Command::new("setpriv");
+        command.args([format!("--reuid={user}"), format!("--regid={group}")]);
+        match more {
+            Some(more) => command.arg(format!("--groups={more}")),
+            None => command.arg("--clear-groups"),
+        };
+        command.arg(self.0 .0.join("kveldrim"));
+        command
+    }
+}
+
+/// Runs a tool of a Debian package on a path; answers what it writes.
+pub fn tool(name: &str, package: &str, words: &[&str], path: &Path) -> Vec<u8> {
+    let output = Command::new(name).args(words).arg(path).output();
+    let output = output.unwrap_or_else(|_| {
+        panic!("the command `{name}`, of Debian's package {package}, is missing")
+    });
+    let told = String::from_utf8_lossy(&output.stderr);
+    assert!(output.status.success(), "{name} {words:?}: {told}");
+    output.stdout
 }
 
 pub struct Outcome {

@@ -1,0 +1,317 @@
+//! Files that several people or programs use: who may do what with a file after an edit, and readers beside editors.
+
+mod common;
+
+use std::fs::{self, File};
+use std::os::unix::fs::{chown, MetadataExt};
+use std::sync::atomic::{AtomicBool, Ordering};
+use std::thread;
+
+use common::{tool, Folder, Shared, T};
+use nix::unistd::User;
+use xattr::FileExt;
+
+const JOURNAL: &str = ".t.kveldrim-journal";
+
+/// Users that every Debian has, with their groups, and one that no system has.
+const GAMES: (u32, u32) = (5, 60);
+const MAN: (u32, u32) = (6, 12);
+const NOBODY_KNOWS: (u32, u32) = (4_111_222, 4_111_222);
+
+/// A file of an owner and a group with a mode, in a folder of that owner.
+fn owned(owner: (u32, u32), mode: u32, folder_mode: u32) -> Folder {
+    let folder = Folder::new().with(b"t", T);
+    for name in [".", "t"] {
+        chown(folder.0.join(name), Some(owner.0), Some(owner.1)).unwrap();
+    }
+    folder.mode("t", mode);
+    folder.mode(".", folder_mode);
+    folder
+}
+
+impl Folder {
+    /// The owner, the group and the mode of a file.
+    fn access(&self, name: &str) -> (u32, u32, u32) {
+        let found = fs::metadata(self.0.join(name)).unwrap();
+        (found.uid(), found.gid(), found.mode() & 0o7777)
+    }
+
+    /// The rights of a file with its access list.
+    fn list(&self, name: &str) -> String {
+        let words = ["--numeric", "--omit-header", "--absolute-names"];
+        let list = tool("getfacl", "acl", &words, &self.0.join(name));
+        String::from_utf8(list).unwrap()
+    }
+
+    fn set_list(&self, name: &str, words: &[&str]) {
+        tool("setfacl", "acl", words, &self.0.join(name));
+    }
+
+    fn open(&self, name: &str) -> File {
+        File::open(self.0.join(name)).unwrap()
+    }
+}
+
+const SET: [&[u8]; 4] = [b"set", b"t", b"Name", b"Les"];
+
+/// Two members of a group edit a file in turn, in a folder that gives its group to new files.
+#[test]
+fn members_of_a_group_edit_in_turn_as_root() {
+    let shared = Shared::new();
+    let [sync, apt] = ["sync", "_apt"].map(|name| {
+        let user = User::from_name(name).unwrap();
+        let user = user.unwrap_or_else(|| panic!("{name}, a user of every Debian, is missing"));
+        (user.uid.as_raw(), user.gid.as_raw())
+    });
+    let group = sync.1;
+    assert_eq!(apt.1, group);
+    for mode in [0o664, 0o660] {
+        let folder = owned(sync, mode, 0o2775);
+        let run = |user: (u32, u32), words: &[&[u8]]| {
+            folder
+                .run_by(shared.command(user.0, user.1, None), words)
+                .writes(b"");
+            for name in ["t", JOURNAL] {
+                assert_eq!(folder.access(name), (user.0, group, mode), "{name}");
+            }
+        };
+        run(apt, &SET);
+        run(sync, &[b"set", b"t", b"Icon", b"x"]);
+        run(apt, &[b"undo", b"t"]);
+        // Root keeps the owner.
+        folder.run(&[b"undo", b"t"]).writes(b"");
+        assert_eq!(folder.access("t"), (apt.0, group, mode));
+        assert_eq!(folder.read("t"), T);
+    }
+}
+
+/// Who is in a group for this run alone counts as its member.
+#[test]
+fn a_group_of_the_run_as_root() {
+    let shared = Shared::new();
+    let folder = owned(GAMES, 0o664, 0o2775);
+    let man = || shared.command(MAN.0, MAN.1, Some(GAMES.1));
+    folder.run_by(man(), &SET).writes(b"");
+    assert_eq!(folder.access("t"), (MAN.0, GAMES.1, 0o664));
+    folder.run_by(man(), &[b"undo", b"t"]).writes(b"");
+    assert_eq!(folder.read("t"), T);
+}
+
+/// A group that cannot be kept is no matter where it has the rights of all others.
+#[test]
+fn a_group_without_rights_of_its_own_as_root() {
+    let shared = Shared::new();
+    let folder = owned(GAMES, 0o666, 0o777);
+    folder
+        .run_by(shared.command(MAN.0, MAN.1, None), &SET)
+        .writes(b"");
+    assert_eq!(folder.access("t"), (MAN.0, MAN.1, 0o666));
+    assert_eq!(folder.access(JOURNAL), (MAN.0, MAN.1, 0o666));
+}
+
+/// An edit that would give somebody a right or take one is refused, with the reason.
+#[test]
+fn edits_that_would_change_rights_as_root() {
+    let shared = Shared::new();
+    let owner = "its owner cannot be kept, and with another one the edit would";
+    let member = || shared.command(MAN.0, MAN.1, Some(GAMES.1));
+    let guest = || shared.command(MAN.0, MAN.1, None);
+    let cases = [
+        (
+            GAMES,
+            0o764,
+            0o2775,
+            member(),
+            format!("{owner} take from games the right to run it"),
+        ),
+        (
+            GAMES,
+            0o674,
+            0o2775,
+            member(),
+            format!("{owner} give games the right to run it"),
+        ),
+        (
+            NOBODY_KNOWS,
+            0o646,
+            0o777,
+            guest(),
+            "its group 4111222 cannot be kept, and has rights of its own".into(),
+        ),
+        (
+            GAMES,
+            0o646,
+            0o777,
+            guest(),
+            "its group 60 cannot be kept, and has rights of its own".into(),
+        ),
+        (
+            GAMES,
+            0o4666,
+            0o777,
+            guest(),
+            "it is set-user-ID, and its owner cannot be kept".into(),
+        ),
+        (
+            GAMES,
+            0o2666,
+            0o777,
+            guest(),
+            "it is set-group-ID, and its group cannot be kept".into(),
+        ),
+        // Only a member of a group can make a file set-group-ID.
+        (
+            (GAMES.0, MAN.1),
+            0o2664,
+            0o2775,
+            shared.command(GAMES.0, GAMES.1, None),
+            "its owner, group, mode or access list cannot be kept".into(),
+        ),
+    ];
+    for (of, mode, folder_mode, command, reason) in cases {
+        let folder = owned(of, mode, folder_mode);
+        let told = format!("t: cannot be edited: {reason}");
+        folder.run_by(command, &SET).tells(2, &[&told]);
+        assert_eq!(folder.read("t"), T);
+        assert_eq!(folder.access("t"), (of.0, of.1, mode));
+        assert_eq!(folder.names(), ["t"], "{mode:o}");
+    }
+    // Whoever is not known to the system may be in the file's group or not.
+    let folder = owned(NOBODY_KNOWS, 0o664, 0o2775);
+    let member = shared.command(MAN.0, MAN.1, Some(NOBODY_KNOWS.1));
+    let told = format!("t: cannot be edited: {owner} take from user 4111222 the right to write it");
+    folder.run_by(member, &SET).tells(2, &[&told]);
+    assert_eq!(folder.names(), ["t"]);
+}
+
+/// The group must not get what the list gives to one user.
+#[test]
+fn an_access_list_stays() {
+    let folder = Folder::new().with(b"t", T);
+    folder.mode("t", 0o640);
+    folder.set_list("t", &["-m", "u:65534:rw"]);
+    let (list, access) = (folder.list("t"), folder.access("t"));
+    assert!(
+        list.contains("user:65534:rw-") && list.contains("group::r--"),
+        "{list}"
+    );
+    folder.run(&SET).writes(b"");
+    folder
+        .run(&[b"set", b"t", b"Name", b"x", b"--discard-journal"])
+        .writes(b"");
+    for name in ["t", JOURNAL, ".t.kveldrim-journal-1"] {
+        assert_eq!(folder.list(name), list, "{name}");
+        assert_eq!(folder.access(name), access, "{name}");
+    }
+}
+
+/// What a folder gives to new files does not come to the edited one.
+#[test]
+fn a_folder_with_a_default_list() {
+    let folder = Folder::new().with(b"t", T);
+    folder.mode("t", 0o640);
+    let list = folder.list("t");
+    folder.set_list(".", &["-d", "-m", "u:65534:rwx,g::rwx,o::rwx"]);
+    folder.run(&SET).writes(b"");
+    for name in ["t", JOURNAL] {
+        assert_eq!(folder.list(name), list, "{name}");
+    }
+}
+
+/// A member edits a file with a list. His own entry in it is then the owner's, so it must say the same.
+#[test]
+fn a_list_and_a_new_owner_as_root() {
+    let shared = Shared::new();
+    let man = || shared.command(MAN.0, MAN.1, Some(GAMES.1));
+    let folder = owned(GAMES, 0o660, 0o2775);
+    folder.set_list("t", &["-m", "u:7:r,u:6:rw"]);
+    let list = folder.list("t");
+    folder.run_by(man(), &SET).writes(b"");
+    assert_eq!(folder.access("t"), (MAN.0, GAMES.1, 0o660));
+    assert_eq!(folder.list("t"), list);
+
+    let folder = owned(GAMES, 0o660, 0o2775);
+    folder.set_list("t", &["-m", "u:5:r"]);
+    let told = "t: cannot be edited: its owner cannot be kept, and with another one the edit would take from \
+        games the right to write it";
+    folder.run_by(man(), &SET).tells(2, &[told]);
+    assert_eq!(folder.names(), ["t"]);
+}
+
+#[test]
+fn extended_attributes_stay() {
+    let folder = Folder::new().with(b"t", T);
+    folder
+        .open("t")
+        .set_xattr("user.note", b"from \xFF")
+        .unwrap();
+    folder.open("t").set_xattr("user.empty", b"").unwrap();
+    folder.run(&SET).writes(b"");
+    folder.run(&[b"undo", b"t"]).writes(b"");
+    let value = |name| folder.open("t").get_xattr(name).unwrap();
+    assert_eq!(value("user.note").as_deref(), Some(&b"from \xFF"[..]));
+    assert_eq!(value("user.empty").as_deref(), Some(&b""[..]));
+}
+
+/// Root can keep an attribute that the owner cannot; he is told which.
+#[test]
+fn an_attribute_that_cannot_be_kept_as_root() {
+    let shared = Shared::new();
+    let folder = owned(GAMES, 0o644, 0o755);
+    folder
+        .open("t")
+        .set_xattr("security.kveldrim", b"x")
+        .unwrap();
+    let told = "t: cannot be edited: its extended attribute security.kveldrim cannot be kept: \
+        Operation not permitted";
+    let games = shared.command(GAMES.0, GAMES.1, None);
+    folder.run_by(games, &SET).tells(2, &[told]);
+    assert_eq!(folder.names(), ["t"]);
+    folder.run(&SET).writes(b"");
+    let value = folder.open("t").get_xattr("security.kveldrim").unwrap();
+    assert_eq!(value.as_deref(), Some(&b"x"[..]));
+    assert_eq!(folder.access("t"), (GAMES.0, GAMES.1, 0o644));
+}
+
+/// A killed run of one user does not hold up another, whatever rights its files have.
+#[test]
+fn what_another_user_left_behind_as_root() {
+    let shared = Shared::new();
+    let folder = owned(GAMES, 0o664, 0o2775);
+    for name in [".t.kveldrim-new", ".t.kveldrim-journal-new"] {
+        fs::write(folder.0.join(name), b"[Desk").unwrap();
+        folder.mode(name, 0);
+    }
+    let man = shared.command(MAN.0, MAN.1, Some(GAMES.1));
+    folder.run_by(man, &SET).writes(b"");
+    assert_eq!(folder.names(), [JOURNAL, "t"]);
+}
+
+/// A reader beside an editor disturbs nobody, and is not disturbed.
+#[test]
+fn a_reader_beside_an_editor() {
+    let folder = Folder::new().with(b"t", T);
+    let done = AtomicBool::new(false);
+    thread::scope(|scope| {
+        let reader = scope.spawn(|| {
+            let mut logs = 0;
+            while !done.load(Ordering::Relaxed) {
+                let log = folder.run(&[b"log", b"t"]);
+                let told = String::from_utf8_lossy(&log.told);
+                assert_eq!((log.status, &*told), (0, ""));
+                logs += 1;
+            }
+            logs
+        });
+        let failed: Vec<String> = (0..60)
+            .map(|number| folder.run(&[b"set", b"t", b"Name", number.to_string().as_bytes()]))
+            .filter(|set| set.status != 0)
+            .map(|set| String::from_utf8_lossy(&set.told).into_owned())
+            .collect();
+        done.store(true, Ordering::Relaxed);
+        assert_eq!(failed, [""; 0]);
+        assert!(reader.join().unwrap() > 10);
+    });
+    let log = folder.run(&[b"log", b"t"]).out;
+    assert_eq!(log.iter().filter(|byte| **byte == b'\n').count(), 60);
+}
