@@ -9,6 +9,7 @@ use std::os::unix::ffi::OsStrExt;
 use std::os::unix::fs::{symlink, MetadataExt};
 use std::process::Command;
 use std::thread;
+use std::time::Duration;
 
 use common::{tool, Folder, Shared, T};
 use rustix::fs::{flock, FlockOperation};
@@ -67,7 +68,7 @@ fn edits_and_back() {
     folder.does(&["set", "t", "Name", " Les\tung"]);
     folder.does(&["set", "t", "Name", "Lisez", "--locale", "fr"]);
     folder.does(&["set", "t", "Icon", "book"]);
-    folder.does(&["remove", "t", "Exec"]);
+    folder.does(&["remove", "t", "Exec", "--no-warn"]);
     folder
         .holds("[Desktop Entry]\nType=Application\nName=\\sLes\\tung\nName[fr]=Lisez\nIcon=book\n");
     folder.does(&["undo", "t"]);
@@ -75,7 +76,7 @@ fn edits_and_back() {
     folder.holds(
         "[Desktop Entry]\nType=Application\nName=\\sLes\\tung\nName[fr]=Lisez\nExec=view %F\n",
     );
-    let stands = "stands: Name in Desktop Entry: \"Lesen\" became \"\\sLes\\tung\"\n\
+    let stands = "stands: Name in Desktop Entry: \"Lesen\" became \" Les\\tung\"\n\
         stands: Name[fr] in Desktop Entry: \"Lire\" became \"Lisez\"\n";
     let icon = "Icon in Desktop Entry: \"book\" was added\n";
     let exec = "waits: Exec in Desktop Entry: \"view %F\" was removed\n";
@@ -214,7 +215,7 @@ fn a_change_by_another_program() {
         &["remove", "t", "X", "--discard-journal"],
         "t: there is no key X",
     );
-    folder.does(&["remove", "t", "Exec", "--discard-journal"]);
+    folder.does(&["remove", "t", "Name[fr]", "--discard-journal"]);
     assert_eq!(folder.read(".t.kveldrim-journal-1"), journal);
     folder.does(&["undo", "t"]);
     assert_eq!(folder.read("t"), other);
@@ -338,6 +339,28 @@ fn two_editors_at_once() {
     flock(&other, FlockOperation::Unlock).unwrap();
     folder.does(&["undo", "t"]);
     assert_eq!(folder.names(), [JOURNAL, "t"]);
+}
+
+/// `--wait` is the time that an editor gives another; a dry run needs no lock.
+#[test]
+fn an_editor_that_waits() {
+    let folder = folder();
+    let other = File::open(folder.0.join("t")).unwrap();
+    flock(&other, FlockOperation::LockExclusive).unwrap();
+    let set = ["set", "t", "Name", "Les"];
+    let told = "t: another kveldrim is at work on this file just now; nothing was changed (--wait";
+    folder.refuses(75, &[&set[..], &["--wait", "0.05"]].concat(), told);
+    let dry = folder.run(&[b"set", b"t", b"Name", b"Les", b"--dry-run"]);
+    dry.writes(b"Name in Desktop Entry: \"Lesen\" would become \"Les\"\n");
+    thread::scope(|scope| {
+        let waiting = scope.spawn(|| folder.does(&[&set[..], &["--wait=60"]].concat()));
+        thread::sleep(Duration::from_millis(50));
+        assert_eq!(folder.read("t"), T);
+        flock(&other, FlockOperation::Unlock).unwrap();
+        waiting.join().unwrap();
+    });
+    folder.does(&["undo", "t", "--wait", "1"]);
+    assert_eq!(folder.read("t"), T);
 }
 
 /// Many editors at once: each edit is made whole or refused, and the journal has all that were made.
@@ -610,7 +633,7 @@ fn a_renamed_file() {
     assert_eq!(log.status, 0);
     let told = String::from_utf8(log.told).unwrap();
     let start = "it's new: it has no journal, but seems to have been renamed: the journal \
-        .t.kveldrim-journal belongs to just these bytes (mv -n '";
+        .t.kveldrim-journal belongs to just these bytes (mv -n ";
     assert!(told.starts_with(start), "{told}");
     for step in ["undo", "redo"] {
         folder.refuses(1, &[step, "it's new"], start);
