@@ -70,7 +70,7 @@ impl Drop for Seed<'_> {
     fn drop(&mut self) {
         if std::thread::panicking() {
             let Seed(test, seed) = self;
-            eprintln!("replay: KVELDRIM_REPLAY={seed} cargo test -p kveldrim-compare {test}");
+            eprintln!("replay: KVELDRIM_REPLAY={seed} cargo --config debian.toml test --offline -p kveldrim-compare {test}");
         }
     }
 }
