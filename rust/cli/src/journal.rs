@@ -51,7 +51,7 @@ pub fn write(pairs: &[&Pair]) -> Vec<u8> {
 pub fn read(bytes: &[u8]) -> Option<Vec<Pair>> {
     let mut rest = bytes.strip_prefix(MAGIC)?;
     match number(&mut rest)? {
-        VERSION => rest = number_and_pairs(bytes, rest)?,
+        VERSION => rest = before_digest(bytes, rest)?,
         FIRST => {}
         _ => return None,
     }
@@ -64,7 +64,7 @@ pub fn read(bytes: &[u8]) -> Option<Vec<Pair>> {
 }
 
 /// What stands before the digest, if that is of all bytes before it.
-fn number_and_pairs<'a>(bytes: &[u8], rest: &'a [u8]) -> Option<&'a [u8]> {
+fn before_digest<'a>(bytes: &[u8], rest: &'a [u8]) -> Option<&'a [u8]> {
     let (rest, digest) = rest.split_last_chunk::<DIGEST>()?;
     let before = &bytes[..bytes.len() - DIGEST];
     (Sha256::digest(before)[..] == digest[..]).then_some(rest)

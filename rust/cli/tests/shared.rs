@@ -310,7 +310,7 @@ fn a_reader_beside_an_editor() {
             .collect();
         done.store(true, Ordering::Relaxed);
         assert_eq!(failed, [""; 0]);
-        assert!(reader.join().unwrap() > 10);
+        assert!(reader.join().unwrap() > 0);
     });
     let log = folder.run(&[b"log", b"t"]).out;
     assert_eq!(log.iter().filter(|byte| **byte == b'\n').count(), 60);
