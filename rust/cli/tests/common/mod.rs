@@ -4,7 +4,7 @@
 #![allow(dead_code)]
 
 use std::ffi::{OsStr, OsString};
-use std::fs;
+use std::fs::{self, File};
 use std::os::unix::ffi::{OsStrExt, OsStringExt};
 use std::path::PathBuf;
 use std::process::{self, Command};
@@ -47,6 +47,16 @@ impl Folder {
             out: output.stdout,
             told: output.stderr,
         }
+    }
+
+    /// Runs the command in the folder with this standard input.
+    pub fn run_with(&self, input: &[u8], words: &[&[u8]]) -> Outcome {
+        let name = self.0.join(".input");
+        fs::write(&name, input).unwrap();
+        let mut command = Command::new(env!("CARGO_BIN_EXE_kveldrim"));
+        command.stdin(File::open(&name).unwrap());
+        fs::remove_file(&name).unwrap();
+        self.run_by(command, words)
     }
 
     /// Runs the command in the folder with a terminal, made by `script` of Debian's package bsdutils. Answers the status and
