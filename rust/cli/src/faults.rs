@@ -48,11 +48,14 @@ impl Fault {
 /// The words of a refusal of a file; the general ones where nothing more is sure.
 fn words(file: &[u8], refusal: Refusal) -> String {
     let lines: Vec<&[u8]> = file.split(|byte| *byte == b'\n').collect();
-    let number = refusal.place as usize;
+    let (number, at) = (refusal.place as usize, refusal.byte as usize);
     let words = match (refusal.kind, number) {
-        (Kind::BadLine, _) if is_parted_by_cr(file) => Some(OLD_MAC.into()),
-        (Kind::BadLine, _) => line_of(&lines, number)
-            .map(|line| bad_line(line, number, refusal.byte as usize, number < lines.len())),
+        (Kind::BadLine, _) if is_parted_by_cr(file) && file.get(at) == Some(&b'\r') => {
+            Some(OLD_MAC.into())
+        }
+        (Kind::BadLine, _) => {
+            line_of(&lines, number).map(|line| bad_line(line, number, at, number < lines.len()))
+        }
         (Kind::First, 0) => Some(no_header(file)),
         (Kind::First, _) => first(&lines, number),
         (Kind::GroupTwice, _) => group_twice(&lines, number),
@@ -144,7 +147,7 @@ fn group_twice(lines: &[&[u8]], number: usize) -> Option<String> {
 fn key_twice(lines: &[&[u8]], number: usize) -> Option<String> {
     let (key, _) = entry(line_of(lines, number)?)?;
     let before = lines[..number - 1].iter();
-    let in_group = before.rev().take_while(|line| header(line).is_none());
+    let in_group = before.rev().take_while(|line| !line.starts_with(b"["));
     let passed = in_group
         .enumerate()
         .filter(|(_, line)| entry(line).is_some_and(|(other, _)| other == key));
@@ -159,14 +162,11 @@ fn key_twice(lines: &[&[u8]], number: usize) -> Option<String> {
 fn no_plain(lines: &[&[u8]], number: usize) -> Option<String> {
     let (key, _) = entry(line_of(lines, number)?)?;
     let plain = named(plain(key)?);
-    let group = lines[..number - 1].iter().rev();
-    let group = group
-        .filter(|line| line.starts_with(b"["))
-        .map(|line| header(line))
-        .next()?;
-    let group = group.map_or("its group".into(), |name| {
-        format!("the group {}", named(name))
-    });
+    let mut before = lines[..number - 1].iter().rev();
+    let group = match header(before.find(|line| line.starts_with(b"["))?) {
+        Some(name) => format!("the group {}", named(name)),
+        None => "its group".into(),
+    };
     Some(format!(
         "{} needs the key {plain} without a [locale] beside it in {group}; add {plain}=",
         named(key),

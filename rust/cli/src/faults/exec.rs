@@ -73,69 +73,91 @@ impl<'a> Argument<'a> {
     }
 
     fn badly_written(&self, place: usize) -> Option<String> {
-        let spot = spot(self.text, place);
-        if place == self.end {
-            return Some(format!("{spot} stands right after a closing quote; put a space between, or take it into the quotes"));
-        }
-        if place == self.start && self.form != Form::Bare {
-            return match self.form {
-                Form::Unclosed => Some("the quote that starts here is not closed; write another '\"' where the argument ends".into()),
-                _ if self.is_program() && self.end == self.start + 2 => Some("the program's name between '\"' and '\"' is empty; write it there".into()),
-                _ => None,
-            };
-        }
-        Some(match (self.text[place], &self.form) {
-            (0x80.., _) => format!("{spot} cannot stand in Exec, which takes ASCII alone"),
-            (b'=', _) if self.is_program() => {
-                "the program's name cannot hold \"=\"; to set a variable write env NAME=value before the program".into()
+        let (byte, spot) = (self.text[place], spot(self.text, place));
+        match self.form {
+            _ if byte > 0x7E => Some(format!(
+                "{spot} cannot stand in Exec, which takes ASCII alone"
+            )),
+            _ if place == self.end => Some(format!(
+                "{spot} stands right after a closing quote; put a space between, or take it into the quotes"
+            )),
+            _ if byte == b'=' && self.is_program() => Some(
+                "the program's name cannot hold \"=\"; to set a variable write env NAME=value before the program".into(),
+            ),
+            Form::Bare => outside_quotes(byte, &spot),
+            _ if place > self.start => in_quotes(byte, &spot),
+            Form::Unclosed => Some(
+                "the quote that starts here is not closed; write another '\"' where the argument ends".into(),
+            ),
+            Form::Quoted if self.is_program() && self.end == self.start + 2 => {
+                Some("the program's name between '\"' and '\"' is empty; write it there".into())
             }
-            (b'$' | b'`', Form::Quoted) => format!("{spot} in quotes needs a backslash before it, which is doubled in the file: write \\\\{}", self.text[place] as char),
-            (b'\\', Form::Quoted) => "\"\\\" in quotes may stand only before '\"', \"`\", \"$\" and \"\\\"; for a backslash itself write \\\\\\\\ in the file".into(),
-            (b'\'', Form::Bare) => "\"'\" cannot stand outside double quotes; to quote an argument use '\"'".into(),
-            (b'"', Form::Bare) => "'\"' can only start an argument; put the whole argument in quotes, as \"--title=a b\"".into(),
-            (b'\\', Form::Bare) => format!("{spot} cannot stand outside quotes; put the argument in quotes (\"..\") and write \\\\\\\\ for it in the file"),
-            (byte @ (b'$' | b'`'), Form::Bare) => format!("{spot} cannot stand outside quotes; put the argument in quotes (\"..\") and write \\\\{} for it in the file", byte as char),
-            (byte, Form::Bare) if RESERVED.contains(&byte) => format!("{spot} cannot stand outside quotes; put the argument in quotes (\"..\")"),
-            _ => return None,
-        })
+            Form::Quoted => None,
+        }
     }
 
     fn wrong_code(&self, place: usize) -> Option<String> {
-        let end = if self.form == Form::Quoted {
-            self.end - 1
-        } else {
-            self.end
-        };
-        let letter = (place + 1 < end)
-            .then(|| printed(self.text, place + 1))
-            .flatten();
+        let end = self.end - usize::from(self.form == Form::Quoted);
+        let letter = printed(&self.text[..end], place + 1);
         let Some(letter) = letter else {
             return Some("a single \"%\" is no code; write %% for a percent sign".into());
         };
         let code = format!("%{letter}");
-        let is_code = CODES.contains(letter);
-        if self.form == Form::Quoted {
-            return Some(match is_code {
-                true => format!("codes do not work in quotes; put {code} outside of them, or write %% for a percent sign"),
-                false => format!("{code} is no code, and codes do not work in quotes; write %% for a percent sign"),
-            });
-        }
-        let is_whole = self.end - self.start == 2;
-        Some(match letter {
-            _ if !is_code => format!("{code} is no code; the codes are %f %F %u %U %i %c and %k, and %% is a percent sign"),
-            _ if self.is_program() => format!("{code} cannot stand in the program's name; write the program first"),
-            'F' | 'U' | 'i' if !is_whole => format!("{code} must be an argument of its own; put spaces round it"),
-            'f' | 'F' | 'u' | 'U' => {
+        Some(match (letter, CODES.contains(letter)) {
+            (_, true) if self.form == Form::Quoted => {
+                format!("codes do not work in quotes; put {code} outside of them, or write %% for a percent sign")
+            }
+            (_, true) if self.is_program() => {
+                format!("{code} cannot stand in the program's name; write the program first")
+            }
+            ('F' | 'U' | 'i', true) if self.end - self.start != 2 => {
+                format!("{code} must be an argument of its own; put spaces round it")
+            }
+            ('f' | 'F' | 'u' | 'U', true) => {
                 let earlier = file_code(&self.text[..place])?;
                 format!("{code} is a second code for files, after %{earlier}; only one of %f %F %u %U may stand in Exec")
             }
-            _ => return None,
+            (_, true) => return None,
+            (_, false) => {
+                format!("{code} is no code; the codes are %f %F %u %U %i %c and %k, and %% is a percent sign")
+            }
         })
     }
 }
 
-/// The bytes besides the space that stand only in quotes.
-const RESERVED: &[u8] = b"\t\n\"'\\><~|&;$*?#()`";
+/// Why a byte cannot stand in quotes.
+fn in_quotes(byte: u8, spot: &str) -> Option<String> {
+    match byte {
+        b'$' | b'`' => Some(format!(
+            "{spot} in quotes needs a backslash before it, which is doubled in the file: write \\\\{}",
+            byte as char
+        )),
+        b'\\' => Some(format!(
+            "{spot} in quotes may stand only before '\"', \"`\", \"$\" and \"\\\"; for a backslash itself write \\\\\\\\ in the file"
+        )),
+        _ => None,
+    }
+}
+
+/// Why a byte cannot stand outside quotes.
+fn outside_quotes(byte: u8, spot: &str) -> Option<String> {
+    let put = format!("{spot} cannot stand outside quotes; put the argument in quotes (\"..\")");
+    match byte {
+        b'\'' => Some(format!(
+            "{spot} cannot stand outside double quotes; to quote an argument use '\"'"
+        )),
+        b'"' => Some(format!(
+            "{spot} can only start an argument; put the whole argument in quotes, as \"--title=a b\""
+        )),
+        b'\\' => Some(format!("{put} and write \\\\\\\\ for it in the file")),
+        b'$' | b'`' => Some(format!("{put} and write \\\\{} for it in the file", byte as char)),
+        _ if RESERVED.contains(&byte) => Some(put),
+        _ => None,
+    }
+}
+
+/// The other bytes that stand only in quotes.
+const RESERVED: &[u8] = b"\t\n><~|&;*?#()";
 
 /// The codes, those that vanish among them.
 const CODES: &str = "fFuUickdDnNvm";

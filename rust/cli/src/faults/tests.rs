@@ -224,7 +224,13 @@ fn bad_lines_by_their_place() {
     let mac =
         "this file has CR but no LF, as if an old Mac had written it; save it with Unix line ends";
     assert_eq!(told(b"[Desktop Entry]\rA=1\r"), mac);
-    assert_ne!(told(b"[Desktop Entry]\r"), mac);
+    for other in [
+        &b"[Desktop Entry]\r"[..],
+        b"=\rA=1",
+        b"[Desktop Entry]\rA=1\n",
+    ] {
+        assert_ne!(told(other), mac);
+    }
 }
 
 #[test]
@@ -463,7 +469,7 @@ fn each_way_of_a_bad_command() {
     told(
         "v \"%x\"",
         3,
-        "%x is no code, and codes do not work in quotes; write %% for a percent sign",
+        "%x is no code; the codes are %f %F %u %U %i %c and %k, and %% is a percent sign",
     );
     for (text, place) in [
         ("v \"5%\"", 4),

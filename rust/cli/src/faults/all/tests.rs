@@ -235,6 +235,10 @@ fn words_name_the_lines_of_the_file() {
         "k=",
         "l=",
         "[Desktop Entry]",
+        "[]",
+        "l=",
+        "m[de]=",
+        "l=",
     ];
     let faults = all(lines.join("\n").as_bytes(), check);
     let told = faults.iter().filter(|fault| fault.kind != Kind::BadLine);
@@ -257,6 +261,14 @@ fn words_name_the_lines_of_the_file() {
         (
             10,
             "the group Desktop Entry starts in line 4 already; put its entries there",
+        ),
+        (
+            13,
+            "m[de] needs the key m without a [locale] beside it in its group; add m=",
+        ),
+        (
+            14,
+            "the key l stands in line 12 of this group already; keep one of the two",
         ),
     ];
     assert_eq!(told, expected);
