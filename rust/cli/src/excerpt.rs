@@ -1,5 +1,8 @@
 //! A line of a file as a terminal shows it, with a caret under one of its bytes.
 
+use unicode_bidi::{bidi_class, BidiClass};
+use unicode_width::UnicodeWidthChar;
+
 /// The most columns of a line that are shown, and the most of them before the caret.
 const COLUMNS: usize = 72;
 const BEFORE: usize = 48;
@@ -8,8 +11,8 @@ const BEFORE: usize = 48;
 const CUT: &str = "...";
 
 /// The line, and below it a caret under the byte at `at`, counted from 0, or behind the line where `at` is its length. Control
-/// bytes are shown as `^I`, bytes that are no text and characters that may take other than one column as `\xFC`. Of a long line
-/// the part round the caret is shown.
+/// bytes are shown as `^I`, bytes that are no text and characters whose columns are not sure as `\xFC`. Of a long line the part
+/// round the caret is shown.
 pub fn excerpt(line: &[u8], at: usize) -> String {
     let signs = signs(line);
     let caret = signs.iter().take_while(|sign| sign.end <= at).count();
@@ -34,46 +37,64 @@ pub fn excerpt(line: &[u8], at: usize) -> String {
 /// Something that is shown for one character or one byte, which ends before the byte `end` of the line.
 struct Sign {
     shown: String,
+    columns: usize,
     end: usize,
 }
 
 fn columns(signs: &[Sign]) -> usize {
-    signs.iter().map(|sign| sign.shown.chars().count()).sum()
+    signs.iter().map(|sign| sign.columns).sum()
 }
 
 fn signs(line: &[u8]) -> Vec<Sign> {
     let mut signs = Vec::new();
     let mut end = 0;
-    let mut push = |shown: String, bytes: usize| {
+    let mut push = |shown: String, columns: usize, bytes: usize| {
         end += bytes;
-        signs.push(Sign { shown, end });
+        signs.push(Sign {
+            shown,
+            columns,
+            end,
+        });
     };
     for chunk in line.utf8_chunks() {
         for character in chunk.valid().chars() {
-            match character {
-                '\0'..='\u{1F}' => push(format!("^{}", (character as u8 + b'@') as char), 1),
-                '\u{7F}' => push("^?".into(), 1),
-                _ if is_one_column(character) => push(character.into(), character.len_utf8()),
-                _ => {
-                    let mut bytes = [0; 4];
-                    for byte in character.encode_utf8(&mut bytes).bytes() {
-                        push(format!("\\x{byte:02X}"), 1);
+            match (character, sure_columns(character)) {
+                ('\0'..='\u{1F}', _) => {
+                    push(format!("^{}", (character as u8 + b'@') as char), 2, 1)
+                }
+                ('\u{7F}', _) => push("^?".into(), 2, 1),
+                (_, Some(columns)) => push(character.into(), columns, character.len_utf8()),
+                (_, None) => {
+                    for byte in character.encode_utf8(&mut [0; 4]).bytes() {
+                        push(format!("\\x{byte:02X}"), 4, 1);
                     }
                 }
             }
         }
         for byte in chunk.invalid() {
-            push(format!("\\x{byte:02X}"), 1);
+            push(format!("\\x{byte:02X}"), 4, 1);
         }
     }
     signs
 }
 
-/// Whether a terminal surely shows the character as it is, in one column and from left to right: Latin, Greek, Cyrillic and
-/// Armenian letters, punctuation and signs of money, without marks and blanks that are no character of their own.
-fn is_one_column(character: char) -> bool {
-    let is_familiar = matches!(character, ' '..='\u{58F}' | '\u{1E00}'..='\u{20CF}');
-    is_familiar && (character.is_ascii() || character.escape_debug().count() == 1)
+/// How many columns a terminal surely takes for the character as it is, from left to right and joined to none beside it; none
+/// for marks, blanks other than a space, letters from right to left and the parts of joined emoji.
+fn sure_columns(character: char) -> Option<usize> {
+    use BidiClass::{CS, EN, ES, ET, L, ON, WS};
+    let is_left_to_right = matches!(bidi_class(character), L | EN | ES | ET | CS | ON | WS);
+    let is_joined = matches!(character, '\u{1F1E6}'..='\u{1F1FF}' | '\u{1F3FB}'..='\u{1F3FF}');
+    let is_shown = character == ' ' || is_seen(character);
+    let columns = character.width().filter(|columns| *columns > 0)?;
+    (is_left_to_right && is_shown && !is_joined).then_some(columns)
+}
+
+/// Whether a character is seen on its own: it is no blank, mark or control.
+pub fn is_seen(character: char) -> bool {
+    match character.is_ascii() {
+        true => character.is_ascii_graphic(),
+        false => character.escape_debug().count() == 1,
+    }
 }
 
 #[cfg(test)]
@@ -125,16 +146,27 @@ mod tests {
             (line, caret.len()),
             (format!("{price}^A"), price.chars().count() + 1)
         );
-        // Combining marks, a soft hyphen, blanks of no column, letters of two columns and one from right to left.
+        // Combining marks, a soft hyphen, blanks, letters and digits from right to left, marks of direction, a part of a flag
+        // and the colour of a skin.
         for other in [
             "\u{308}",
             "\u{20D0}",
             "\u{AD}",
+            "\u{A0}",
             "\u{200B}",
+            "\u{200D}",
+            "\u{200E}",
             "\u{202E}",
-            "\u{4E2D}",
+            "\u{2066}",
+            "\u{2028}",
+            "\u{3000}",
+            "\u{FE0F}",
+            "\u{FEFF}",
             "\u{5D0}",
-            "\u{1F600}",
+            "\u{627}",
+            "\u{661}",
+            "\u{1F1E9}",
+            "\u{1F3FD}",
             "\u{85}",
         ] {
             let line = ["a", other, "\x01"].concat();
@@ -143,6 +175,30 @@ mod tests {
             assert_eq!(line, format!("a{bytes}^A"));
             assert_eq!(caret.len(), 1 + 4 * other.len() + 1);
         }
+    }
+
+    #[test]
+    fn wide_letters_take_two_columns() {
+        let [line, caret] = shown("Name=\u{4E2D}\u{6587}\x01".as_bytes(), 11);
+        assert_eq!(line, "Name=\u{4E2D}\u{6587}^A");
+        assert_eq!(caret, "         ^");
+        // Within a letter the caret is under its first column.
+        for at in 5..8 {
+            let [_, caret] = shown("Name=\u{4E2D}\u{6587}".as_bytes(), at);
+            assert_eq!(caret, "     ^");
+        }
+        let [line, caret] = shown("\u{1F600}\u{AC00}\u{E01}x".as_bytes(), 10);
+        assert_eq!(line, "\u{1F600}\u{AC00}\u{E01}x");
+        assert_eq!(caret, "     ^");
+    }
+
+    /// Of a long line of wide letters no more columns are shown than of one of others.
+    #[test]
+    fn wide_letters_are_cut_by_their_columns() {
+        let line = "\u{4E2D}".repeat(1_000);
+        let [text, caret] = shown(line.as_bytes(), 1_500);
+        assert_eq!(text, format!("...{}...", "\u{4E2D}".repeat(24 + 12)));
+        assert_eq!(caret, format!("{}^", " ".repeat(3 + 48)));
     }
 
     #[test]

@@ -10,7 +10,7 @@ use serde_json::{json, Value};
 use crate::arguments::Expand;
 use crate::json::{line, text};
 use crate::report::Trouble;
-use crate::{locale, streams};
+use crate::{faults, locale, streams};
 
 /// What is asked of a file's command.
 struct Asked<'a> {
@@ -125,12 +125,10 @@ impl Asked<'_> {
                 "the locale is not well written (as de, de_AT, de_AT.UTF-8 or de_AT.UTF-8@euro)",
             ),
             Kind::Missing => say(&self.missing()),
-            Kind::Escape | Kind::BadExec | Kind::BadCode => Trouble::at(
-                self.name,
-                self.file,
-                self.place_in_file(refusal),
-                refusal.kind.words(),
-            ),
+            Kind::Escape | Kind::BadExec | Kind::BadCode => {
+                let place = self.place_in_file(refusal);
+                Trouble::at(self.name, self.file, place, &self.fault(refusal, place))
+            }
             Kind::Unfit => {
                 say("the name of a file to open is empty, or the location is over 4,096 bytes")
             }
@@ -139,6 +137,15 @@ impl Asked<'_> {
             }
             _ => Trouble::of_file(self.name, self.file, refusal),
         }
+    }
+
+    /// What is wrong with the command, or with an escape at a place in the file.
+    fn fault(&self, refusal: Refusal, place: usize) -> String {
+        if refusal.kind == Kind::Escape {
+            return faults::escape(self.file, place);
+        }
+        let exec = kveldrim::lookup(self.file, DESKTOP_ENTRY, b"Exec").unwrap_or_default();
+        faults::exec(&kveldrim::read_text_vec(exec).unwrap_or_default(), refusal)
     }
 
     /// What is missing: Exec, the run, or the Name that `%c` needs.

@@ -11,6 +11,7 @@ mod disk;
 mod editing;
 mod excerpt;
 mod expand;
+mod faults;
 mod journal;
 mod json;
 #[cfg(test)]

@@ -1,21 +1,29 @@
 //! What goes wrong, told on standard error in one line: `FILE:LINE:BYTE: words`, so that editors jump there. On a terminal the
 //! line of the file follows where the byte in it is known.
 
-use std::ffi::OsStr;
+use std::ffi::{OsStr, OsString};
 use std::io::{self, IsTerminal, Write};
 use std::os::unix::ffi::OsStrExt;
 use std::path::Path;
 use std::process::ExitCode;
 
-use kveldrim::{Kind, Place, Refusal, DESKTOP_ENTRY};
+use kveldrim::{Kind, Place, Refusal};
+use serde_json::{json, Value};
 
 use crate::excerpt::excerpt;
 use crate::expand::quoted;
+use crate::faults::{self, Fault};
+use crate::json::text;
 
 /// A message, the exit status that goes with it, and what a terminal is shown besides.
 pub struct Trouble {
-    /// What the message is about, with line and byte where they are known.
-    front: Vec<u8>,
+    /// What the message is about: a file, or the command itself.
+    about: OsString,
+    /// Both count from 1.
+    line: Option<usize>,
+    byte: Option<usize>,
+    /// Which refusal of a file it is, if it is one.
+    kind: Option<Kind>,
     words: Vec<u8>,
     status: u8,
     excerpt: String,
@@ -28,9 +36,12 @@ pub const UNUSABLE: u8 = 2;
 const BUSY: u8 = 75;
 
 impl Trouble {
-    fn new(file: &OsStr, words: impl Into<Vec<u8>>, status: u8) -> Trouble {
+    fn new(about: &OsStr, words: impl Into<Vec<u8>>, status: u8) -> Trouble {
         Trouble {
-            front: shown(file),
+            about: about.into(),
+            line: None,
+            byte: None,
+            kind: None,
             words: words.into(),
             status,
             excerpt: String::new(),
@@ -43,12 +54,34 @@ impl Trouble {
 
     /// Writes the message; a message that cannot be written leaves at least the status.
     pub fn tell(&self) -> ExitCode {
-        let mut lines = [&self.front[..], b": ", &self.words, b"\n"].concat();
+        let place = [self.line, self.byte].into_iter().flatten();
+        let place: String = place.map(|number| format!(":{number}")).collect();
+        let mut lines = [
+            &shown(&self.about),
+            place.as_bytes(),
+            b": ",
+            &self.words,
+            b"\n",
+        ]
+        .concat();
         if io::stderr().is_terminal() {
             lines.extend(self.excerpt.as_bytes());
         }
         let _ = io::stderr().write_all(&lines);
         ExitCode::from(self.status)
+    }
+
+    /// The fault as an object (docs/JSON.md). What is no refusal of a file is one that cannot be read.
+    pub fn object(&self) -> Value {
+        json!({
+            "file": text(self.about.as_bytes()),
+            "ok": false,
+            "line": self.line,
+            "byte": self.byte,
+            "kind": self.kind.map_or("unreadable".into(), Kind::name),
+            "number": self.kind.map(Kind::number),
+            "words": text(&self.words),
+        })
     }
 
     /// The same as a warning, after words that say what it is about.
@@ -73,6 +106,11 @@ impl Trouble {
 
     pub fn unreadable(file: &OsStr, error: &io::Error) -> Trouble {
         Trouble::new(file, format!("cannot be read: {}", plain(error)), UNUSABLE)
+    }
+
+    /// A folder that was searched in vain.
+    pub fn without_files(folder: &OsStr) -> Trouble {
+        Trouble::new(folder, "no .desktop file in this folder", UNUSABLE)
     }
 
     pub fn uneditable(file: &OsStr, error: &io::Error) -> Trouble {
@@ -123,13 +161,7 @@ impl Trouble {
     pub fn unread(file: &OsStr, key: &[u8]) -> Trouble {
         let words =
             b"`get --locale` will not read this key: its locale has an encoding, or is C or POSIX";
-        let words = [
-            &b"warning: "[..],
-            &shown(OsStr::from_bytes(key)),
-            b": ",
-            words,
-        ]
-        .concat();
+        let words = [&b"warning: "[..], &escaped(key), b": ", words].concat();
         Trouble::new(file, words, 0)
     }
 
@@ -139,23 +171,25 @@ impl Trouble {
 
     /// A refusal of the file itself.
     pub fn of_file(file: &OsStr, bytes: &[u8], refusal: Refusal) -> Trouble {
-        let words = match (refusal.kind, refusal.place) {
-            (Kind::Incomplete, 0) => missing_key(bytes),
-            _ => refusal.kind.words(),
-        };
-        match refusal.at() {
-            Place::Byte { line, byte } => {
-                let start = line_start(bytes, line as usize);
-                Trouble::at(file, bytes, start + byte as usize, words)
-            }
-            Place::Line(line) => Trouble::refused(file, words).at_place(&format!(":{line}")),
-            _ => Trouble::refused(file, words),
-        }
+        Trouble::of_fault(file, bytes, &Fault::of(bytes, refusal))
     }
 
-    fn at_place(mut self, place: &str) -> Trouble {
-        self.front.extend(place.as_bytes());
-        self
+    /// A fault of the file itself.
+    pub fn of_fault(file: &OsStr, bytes: &[u8], fault: &Fault) -> Trouble {
+        let trouble = match (fault.line, fault.byte) {
+            (Some(line), Some(byte)) => {
+                let offset = line_start(bytes, line) + byte;
+                Trouble::at(file, bytes, offset, &fault.words)
+            }
+            (line, _) => Trouble {
+                line,
+                ..Trouble::refused(file, &fault.words)
+            },
+        };
+        Trouble {
+            kind: Some(fault.kind),
+            ..trouble
+        }
     }
 
     /// Something wrong at an offset in the file.
@@ -168,8 +202,10 @@ impl Trouble {
         let end = bytes[start..].iter().position(|byte| *byte == b'\n');
         let end = end.map_or(bytes.len(), |length| start + length);
         Trouble {
+            line: Some(line),
+            byte: Some(byte + 1),
             excerpt: excerpt(&bytes[start..end], byte),
-            ..Trouble::refused(file, words).at_place(&format!(":{line}:{}", byte + 1))
+            ..Trouble::refused(file, words)
         }
     }
 
@@ -201,7 +237,7 @@ impl Trouble {
         let words = match refusal.kind {
             Kind::Form => FORMS.into(),
             Kind::Missing if lines.any(|line| line == header) => no_key(group, key),
-            Kind::Missing => [b"there is no group ", group].concat(),
+            Kind::Missing => [b"there is no group ", &escaped(group)[..]].concat(),
             Kind::Unfit => UNFIT.into(),
             Kind::NoRoom => "the file would be over 32,768 bytes".into(),
             Kind::JournalFull => format!("its journal has no room for this edit{DISCARD}").into(),
@@ -227,7 +263,8 @@ impl Trouble {
     pub fn of_value(file: &OsStr, bytes: &[u8], start: usize, refusal: Refusal) -> Trouble {
         match refusal.at() {
             Place::Offset(offset) => {
-                Trouble::at(file, bytes, start + offset as usize, refusal.kind.words())
+                let place = start + offset as usize;
+                Trouble::at(file, bytes, place, &faults::escape(bytes, place))
             }
             _ => Trouble::of_file(file, bytes, refusal),
         }
@@ -253,7 +290,13 @@ const DISCARD: &str =
     " (set and remove with --discard-journal put the journal aside and start a new one)";
 
 fn no_key(group: &[u8], key: &[u8]) -> Vec<u8> {
-    [b"there is no key ", key, b" in a group ", group].concat()
+    [
+        &b"there is no key "[..],
+        &escaped(key),
+        b" in a group ",
+        &escaped(group),
+    ]
+    .concat()
 }
 
 fn of_journal(file: &OsStr, before: &str, journal: &OsStr, after: &str) -> Trouble {
@@ -262,40 +305,90 @@ fn of_journal(file: &OsStr, before: &str, journal: &OsStr, after: &str) -> Troub
     Trouble::new(file, words, REFUSED)
 }
 
-/// A name in a message: control bytes are escaped, others stay as they are.
+/// A name in a message: control characters, ends of lines and marks of direction are escaped. Others stay as they are, and so do
+/// bytes that are not UTF-8.
 pub fn shown(name: &OsStr) -> Vec<u8> {
-    let mut shown = Vec::new();
-    for byte in name.as_bytes() {
-        match byte {
-            0..=0x1F | 0x7F => shown.extend(format!("\\x{byte:02X}").into_bytes()),
-            byte => shown.push(*byte),
+    escaped(name.as_bytes())
+}
+
+fn escaped(text: &[u8]) -> Vec<u8> {
+    let mut escaped = Vec::new();
+    for chunk in text.utf8_chunks() {
+        for character in chunk.valid().chars() {
+            let mut bytes = [0; 4];
+            let bytes = character.encode_utf8(&mut bytes).bytes();
+            match is_harmful(character) {
+                true => {
+                    escaped.extend(bytes.flat_map(|byte| format!("\\x{byte:02X}").into_bytes()))
+                }
+                false => escaped.extend(bytes),
+            }
         }
+        escaped.extend(chunk.invalid());
     }
-    shown
+    escaped
+}
+
+/// Whether a terminal may show a text otherwise than it is because of this character.
+fn is_harmful(character: char) -> bool {
+    let is_mark = matches!(
+        character,
+        '\u{61C}' | '\u{200E}' | '\u{200F}' | '\u{202A}'..='\u{202E}' | '\u{2066}'..='\u{2069}'
+    );
+    is_mark || character.is_control() || matches!(character, '\u{2028}' | '\u{2029}')
 }
 
 /// What the operating system says, without its number.
 pub fn plain(error: &io::Error) -> String {
     let words = error.to_string();
-    match words.find(" (os error ") {
-        Some(end) => words[..end].into(),
-        None => words,
-    }
-}
-
-/// Which key is missing in a file that is refused as incomplete (18) without a line.
-fn missing_key(bytes: &[u8]) -> &'static str {
-    let plain = |key| kveldrim::lookup(bytes, DESKTOP_ENTRY, key);
-    match (plain(b"Type"), plain(b"Name")) {
-        (Err(_), _) => "the key Type is missing in the group Desktop Entry",
-        (_, Err(_)) => "the key Name is missing in the group Desktop Entry",
-        (Ok(b"Link"), _) => "the key URL is missing in the group Desktop Entry; a Link needs it",
-        _ => "the key Exec is missing in the group Desktop Entry; an Application needs it",
-    }
+    let Some((before, number)) = words.split_once(" (os error ") else {
+        return words;
+    };
+    let after = number.split_once(')').map_or("", |(_, after)| after);
+    [before, after].concat()
 }
 
 /// Where a line starts in the file; lines count from 1.
 fn line_start(bytes: &[u8], line: usize) -> usize {
     let before = bytes.split_inclusive(|byte| *byte == b'\n');
     before.take(line - 1).map(<[u8]>::len).sum()
+}
+
+#[cfg(test)]
+mod tests {
+    use super::*;
+
+    #[test]
+    fn names_are_shown_without_what_alters_a_terminal() {
+        let shown = |name: &[u8]| shown(OsStr::from_bytes(name)).escape_ascii().to_string();
+        let same = |name: &[u8]| assert_eq!(shown(name), name.escape_ascii().to_string());
+        same(b"");
+        same("M\u{FC}ller \u{4E2D}\u{5D0} \\x1B.desktop".as_bytes());
+        // Bytes that are not UTF-8, and letters with the bytes 0x80 to 0x9F in them.
+        same(b"\xFF\x9B\xC2");
+        same("\u{C0}\u{A0}\u{DB}\u{201E}".as_bytes());
+        let escaped = |name: &str, expected: &str| {
+            let expected = expected.as_bytes().escape_ascii().to_string();
+            assert_eq!(shown(name.as_bytes()), expected);
+        };
+        escaped("a\x1B[1m\n\x7F", "a\\x1B[1m\\x0A\\x7F");
+        escaped("\u{80}\u{9B}1m\u{9F}", "\\xC2\\x80\\xC2\\x9B1m\\xC2\\x9F");
+        escaped("a\u{202E}b", "a\\xE2\\x80\\xAEb");
+        for mark in "\u{61C}\u{200E}\u{200F}\u{202A}\u{2066}\u{2069}\u{2028}\u{2029}".chars() {
+            let bytes = mark.to_string().into_bytes();
+            let expected: String = bytes.iter().map(|byte| format!("\\x{byte:02X}")).collect();
+            escaped(&mark.to_string(), &expected);
+        }
+    }
+
+    #[test]
+    fn errors_are_told_without_their_number() {
+        let plain_of = |words: &str| plain(&io::Error::other(words.to_string()));
+        assert_eq!(
+            plain(&io::Error::from_raw_os_error(2)),
+            "No such file or directory"
+        );
+        assert_eq!(plain_of("a (os error 13): b"), "a: b");
+        assert_eq!(plain_of("it is no file"), "it is no file");
+    }
 }

@@ -30,12 +30,12 @@ fn check_tells_file_and_line() {
     outcome.tells(
         1,
         &[
-            "bad:2:5: this line is not",
-            "empty: the file has no header",
-            "first:2: before this line",
-            "group:3: a group of this name",
-            "key:3: this key stands",
-            "plain:2: this key has a [locale]",
+            "bad:2:5: there is no \"=\" after the key Name",
+            "empty: the file is empty",
+            "first:2: the first header must be [Desktop Entry]",
+            "group:3: the group a starts in line 2",
+            "key:3: the key a stands in line 2",
+            "plain:2: a[de] needs the key a",
             "long: the file is over 32,768 bytes",
         ],
     );
@@ -67,7 +67,9 @@ fn every_command_tells_the_byte_of_a_bad_line() {
         &[b"expand", b"tab"],
     ];
     for words in commands {
-        folder.run(words).tells(1, &["tab:2:5: this line is not"]);
+        folder
+            .run(words)
+            .tells(1, &["tab:2:5: after the key Name only spaces"]);
     }
     assert_eq!(folder.read("tab"), b"[Desktop Entry]\nName\t=x\n");
 }
@@ -89,12 +91,12 @@ fn a_terminal_is_shown_the_line() {
     };
     shown(
         &["check", "tab"],
-        ["tab:2:5: this line is not", "    Name^I=x", "        ^"],
+        ["tab:2:5: after the key Name", "    Name^I=x", "        ^"],
     );
     shown(
         &["get", "latin", "Name"],
         [
-            "latin:2:7: this line is not",
+            "latin:2:7: the byte 0xFC is not UTF-8",
             "    Name=M\\xFCller",
             "          ^",
         ],
@@ -102,7 +104,7 @@ fn a_terminal_is_shown_the_line() {
     shown(
         &["get", "escape", "Name"],
         [
-            "escape:2:11: unknown or",
+            "escape:2:11: \\q is no escape",
             "    Name =  ab\\q",
             "              ^",
         ],
@@ -110,7 +112,7 @@ fn a_terminal_is_shown_the_line() {
     shown(
         &["expand", "exec"],
         [
-            "exec:2:11: Exec is badly",
+            "exec:2:11: \"'\" cannot stand",
             "    Exec=view 'a'",
             "              ^",
         ],
@@ -148,8 +150,8 @@ fn complete_tells_what_is_missing() {
             "name: the key Name is missing",
             "exec: the key Exec is missing",
             "url: the key URL is missing",
-            "boolean:4: Type must be",
-            "bad:2:1: this line is not",
+            "boolean:4: the value of Hidden is \"yes\"",
+            "bad:2:1: there is no key before \"=\"",
         ],
     );
 }
@@ -157,13 +159,19 @@ fn complete_tells_what_is_missing() {
 #[test]
 fn a_file_that_cannot_be_read_is_2() {
     let folder = Folder::new().with(b"bad", b"x\n");
-    folder.run(&[b"check", b"none", b"bad", b"."]).tells(
+    folder.run(&[b"check", b"none", b"bad", b"none/x"]).tells(
         2,
-        &["none: cannot be read", "bad:1:2: ", ".: cannot be read"],
+        &[
+            "none: cannot be read",
+            "bad:1:2: ",
+            "none/x: cannot be read",
+        ],
     );
-    folder
-        .run(&[b"get", b"none", b"Name"])
-        .tells(2, &["none: cannot be read"]);
+    for file in ["none", "."] {
+        folder
+            .run(&[b"get", file.as_bytes(), b"Name"])
+            .tells(2, &[&format!("{file}: cannot be read: ")]);
+    }
 }
 
 #[test]
@@ -234,7 +242,7 @@ fn get_tells_refusals() {
     );
     refused(
         &[b"get", b"escape", b"Name"],
-        "escape:3:11: unknown or unfinished escape",
+        "escape:3:11: \\q is no escape",
     );
     refused(&[b"get", b"bad", b"Name"], "bad:2:1: ");
     folder
@@ -253,7 +261,7 @@ fn list_writes_each_element() {
         .writes(b"1\n2\n");
     folder
         .run(&[b"list", b"f", b"C"])
-        .tells(1, &["f:4:8: unknown or unfinished escape"]);
+        .tells(1, &["f:4:8: the value ends with a single backslash"]);
 }
 
 /// Bytes go through as they are: a file's name that is not UTF-8, both spellings of Müller.
@@ -292,7 +300,8 @@ fn bad_usage_is_2() {
         &[b"get", b"t", b"Name", b"--raw=1"],
         &[b"get", b"t", b"Name", b"--rwa"],
         &[b"list", b"t", b"Name", b"--raw"],
-        &[b"list", b"t", b"Name", b"--locale", b"de"],
+        &[b"list", b"t", b"Name", b"--null", b"--json"],
+        &[b"check", b"t", b"--quiet", b"--json"],
         &[b"set", b"t", b"Name"],
         &[b"set", b"t", b"Name", b"a", b"b"],
         &[b"set", b"t", b"Name", b"-a"],
@@ -311,7 +320,7 @@ fn bad_usage_is_2() {
     for words in wrong {
         let outcome = folder.run(words);
         assert_eq!(outcome.status, 2, "{words:?}");
-        assert!(outcome.told.starts_with(b"kveldrim: "), "{words:?}");
+        assert!(!outcome.told.is_empty(), "{words:?}");
         assert!(outcome.out.is_empty());
     }
 }
@@ -319,10 +328,15 @@ fn bad_usage_is_2() {
 #[test]
 fn help_and_version() {
     let folder = Folder::new();
-    for words in [&[&b"--help"[..]][..], &[b"-h"], &[b"get", b"--help"]] {
+    let helps: [(&[&[u8]], &[u8]); 3] = [
+        (&[b"--help"], b"Checks .desktop files"),
+        (&[b"-h"], b"Checks .desktop files"),
+        (&[b"get", b"--help"], b"Writes the value of a key"),
+    ];
+    for (words, start) in helps {
         let outcome = folder.run(words);
         assert_eq!(outcome.status, 0);
-        assert!(outcome.out.starts_with(b"Checks .desktop files"));
+        assert!(outcome.out.starts_with(start));
     }
     let version = concat!("kveldrim ", env!("CARGO_PKG_VERSION"), "\n");
     folder.run(&[b"--version"]).writes(version.as_bytes());

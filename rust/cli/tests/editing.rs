@@ -159,8 +159,8 @@ fn refused_edits_change_nothing() {
         &["set", "t", "Name", &"x".repeat(40_000)],
         "t: the file would be over 32,768",
     );
-    refuses(&["set", "bad", "Name", "x"], "bad:2:5: a line is not blank");
-    refuses(&["undo", "bad"], "bad:2:5: a line is not blank");
+    refuses(&["set", "bad", "Name", "x"], "bad:2:5: there is no \"=\" after the key Name");
+    refuses(&["undo", "bad"], "bad:2:5: there is no \"=\" after the key Name");
     refuses(
         &["set", "long", "Name", "x"],
         "long: the file is over 32,768 bytes",

@@ -45,6 +45,21 @@ macro_rules! kinds {
                     $(Kind::$kind => $words,)*
                 }
             }
+
+            /// The name in lower case, its words parted by `-`: `bad-line`.
+            pub fn name(self) -> String {
+                let name = match self {
+                    $(Kind::$kind => stringify!($kind),)*
+                };
+                let mut parted = String::new();
+                for (at, letter) in name.char_indices() {
+                    if at > 0 && letter.is_ascii_uppercase() {
+                        parted.push('-');
+                    }
+                    parted.push(letter.to_ascii_lowercase());
+                }
+                parted
+            }
         }
     };
 }

@@ -4,7 +4,7 @@
 #![allow(dead_code)]
 
 use std::ffi::{OsStr, OsString};
-use std::fs;
+use std::fs::{self, File};
 use std::os::unix::ffi::{OsStrExt, OsStringExt};
 use std::os::unix::fs::{MetadataExt, PermissionsExt};
 use std::path::{Path, PathBuf};
@@ -61,6 +61,16 @@ impl Folder {
     /// Sets the mode of a file in the folder.
     pub fn mode(&self, name: &str, mode: u32) {
         fs::set_permissions(self.0.join(name), fs::Permissions::from_mode(mode)).unwrap();
+    }
+
+    /// Runs the command in the folder with this standard input.
+    pub fn run_with(&self, input: &[u8], words: &[&[u8]]) -> Outcome {
+        let name = self.0.join(".input");
+        fs::write(&name, input).unwrap();
+        let mut command = Command::new(env!("CARGO_BIN_EXE_kveldrim"));
+        command.stdin(File::open(&name).unwrap());
+        fs::remove_file(&name).unwrap();
+        self.run_by(command, words)
     }
 
     /// Runs the command in the folder with a terminal, made by `script` of Debian's package bsdutils. Answers the status and
