@@ -15,8 +15,8 @@ use crate::json::{line, text};
 use crate::report::Trouble;
 use crate::streams;
 
-/// Asks the same of every file; the status is that of the worst.
-pub fn each(files: &Files, ask: Ask) -> ExitCode {
+/// Asks of every file whether it is so; the status is that of the worst.
+pub fn each(files: &Files, ask: Ask, so: &str) -> ExitCode {
     let mut answers = Answers {
         files,
         count: 0,
@@ -29,7 +29,7 @@ pub fn each(files: &Files, ask: Ask) -> ExitCode {
             Err(trouble) => answers.tell(&trouble),
         }
     }
-    answers.end(ask)
+    answers.end(so)
 }
 
 /// What has been told so far.
@@ -65,12 +65,12 @@ impl Answers<'_> {
     }
 
     /// Writes the objects, or to a terminal that all is well.
-    fn end(self, ask: Ask) -> ExitCode {
+    fn end(self, so: &str) -> ExitCode {
         let Files { json, quiet, .. } = self.files;
         let is_shown = !quiet && self.status == 0 && io::stdout().is_terminal();
         let written = match json.json {
             true => streams::write(&self.objects),
-            false if is_shown => streams::write(all_well(self.count, ask).as_bytes()),
+            false if is_shown => streams::write(all_well(self.count, so).as_bytes()),
             false => ExitCode::SUCCESS,
         };
         match self.status {
@@ -81,17 +81,11 @@ impl Answers<'_> {
 }
 
 /// A line that says what all files are.
-fn all_well(count: usize, ask: Ask) -> String {
-    let files = match count {
-        1 => "1 file is".into(),
-        _ => format!("{count} files are"),
-    };
-    // An entry without keys is well formed, but not complete.
-    let answer = match ask(b"[Desktop Entry]\n") {
-        Ok(()) => "well formed",
-        Err(_) => "complete",
-    };
-    format!("{files} {answer}\n")
+fn all_well(count: usize, so: &str) -> String {
+    match count {
+        1 => format!("1 file is {so}\n"),
+        _ => format!("{count} files are {so}\n"),
+    }
 }
 
 /// What is wrong with a file.

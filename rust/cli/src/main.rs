@@ -43,16 +43,15 @@ fn run(words: impl Iterator<Item = OsString>) -> ExitCode {
         Err(error) => {
             // Help and the version come this way too; a reader that stops early is no error.
             let _ = error.print();
-            return ExitCode::from(if error.use_stderr() {
-                report::UNUSABLE
-            } else {
-                0
-            });
+            return match error.use_stderr() {
+                true => ExitCode::from(report::UNUSABLE),
+                false => ExitCode::SUCCESS,
+            };
         }
     };
     match &line.command {
-        Command::Check(files) => check::each(files, kveldrim::check),
-        Command::Complete(files) => check::each(files, kveldrim::complete),
+        Command::Check(files) => check::each(files, kveldrim::check, "well formed"),
+        Command::Complete(files) => check::each(files, kveldrim::complete, "complete"),
         Command::Get(get) => value::get(get),
         Command::List(list) => value::list(list),
         Command::Set(set) => editing::set(set),

@@ -241,6 +241,16 @@ impl Trouble {
             Kind::Unfit => UNFIT.into(),
             Kind::NoRoom => "the file would be over 32,768 bytes".into(),
             Kind::JournalFull => format!("its journal has no room for this edit{DISCARD}").into(),
+            Kind::NoPlain if refusal.place == 0 => [
+                &escaped(key)[..],
+                b" needs the same key without a [locale] in its group; set that first",
+            ]
+            .concat(),
+            Kind::Postfixed => [
+                &escaped(key)[..],
+                b" cannot be removed while the same key with a [locale] remains; remove those first",
+            ]
+            .concat(),
             _ => return Trouble::of_file(file, bytes, refusal),
         };
         Trouble::new(file, words, REFUSED)

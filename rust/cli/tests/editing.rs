@@ -127,7 +127,7 @@ fn refused_edits_change_nothing() {
     let refuses = |words: &[&str], told: &str| folder.refuses(1, words, told);
     refuses(
         &["set", "t", "Icon", "x", "--locale=de"],
-        "t: this key has a [locale], but the same key without one is missing",
+        "t: Icon[de] needs the same key without a [locale] in its group",
     );
     refuses(&["set", "t", "Na me", "x"], "t: the group, key or locale");
     refuses(
@@ -152,15 +152,21 @@ fn refused_edits_change_nothing() {
     );
     refuses(
         &["remove", "t", "Name"],
-        "t: the key cannot be removed while",
+        "t: Name cannot be removed while the same key with a [locale] remains",
     );
     refuses(&["set", "t", "Name", "\u{1}"], "t: this text cannot be set");
     refuses(
         &["set", "t", "Name", &"x".repeat(40_000)],
         "t: the file would be over 32,768",
     );
-    refuses(&["set", "bad", "Name", "x"], "bad:2:5: there is no \"=\" after the key Name");
-    refuses(&["undo", "bad"], "bad:2:5: there is no \"=\" after the key Name");
+    refuses(
+        &["set", "bad", "Name", "x"],
+        "bad:2:5: there is no \"=\" after the key Name",
+    );
+    refuses(
+        &["undo", "bad"],
+        "bad:2:5: there is no \"=\" after the key Name",
+    );
     refuses(
         &["set", "long", "Name", "x"],
         "long: the file is over 32,768 bytes",
