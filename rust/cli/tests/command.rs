@@ -194,33 +194,6 @@ fn get_writes_the_value() {
 }
 
 #[test]
-fn get_chooses_by_locale_only_if_asked() {
-    let folder = Folder::new().with(b"t", T);
-    let french = [("LANG", "fr_FR.UTF-8")];
-    folder
-        .run_in(&french, &[b"get", b"t", b"Name"])
-        .writes(b"Lesen\n");
-    let auto: &[&[u8]] = &[b"get", b"t", b"Name", b"--locale", b"auto"];
-    folder.run_in(&french, auto).writes(b"Lire\n");
-    folder.run_in(&[], auto).writes(b"Lesen\n");
-    folder
-        .run_in(
-            &[("LC_ALL", ""), ("LC_MESSAGES", "fr"), ("LANG", "de")],
-            auto,
-        )
-        .writes(b"Lire\n");
-    folder
-        .run_in(&[("LC_ALL", "C"), ("LANG", "fr")], auto)
-        .writes(b"Lesen\n");
-    folder
-        .run(&[b"get", b"t", b"Name", b"--locale", b"fr_CA@x"])
-        .writes(b"Lire\n");
-    folder
-        .run(&[b"get", b"t", b"Name", b"--locale="])
-        .writes(b"Lesen\n");
-}
-
-#[test]
 fn get_tells_refusals() {
     let folder = Folder::new()
         .with(b"t", T)
@@ -282,62 +255,4 @@ fn bytes_are_not_altered() {
     let outcome = folder.run(&[b"get", b"f\xFF", b"\xFE"]);
     assert!(outcome.told.starts_with(b"f\xFF: "));
     assert_eq!(outcome.status, 1);
-}
-
-#[test]
-fn bad_usage_is_2() {
-    let folder = Folder::new().with(b"t", T);
-    let wrong: &[&[&[u8]]] = &[
-        &[],
-        &[b"chekc", b"t"],
-        &[b"check"],
-        &[b"check", b"--raw", b"t"],
-        &[b"check", b"--group", b"x", b"t"],
-        &[b"get", b"t"],
-        &[b"get", b"t", b"Name", b"Name"],
-        &[b"get", b"t", b"Name", b"--locale"],
-        &[b"get", b"t", b"Name", b"--locale", b"a", b"--locale=b"],
-        &[b"get", b"t", b"Name", b"--raw=1"],
-        &[b"get", b"t", b"Name", b"--rwa"],
-        &[b"list", b"t", b"Name", b"--raw"],
-        &[b"list", b"t", b"Name", b"--null", b"--json"],
-        &[b"check", b"t", b"--quiet", b"--json"],
-        &[b"set", b"t", b"Name"],
-        &[b"set", b"t", b"Name", b"a", b"b"],
-        &[b"set", b"t", b"Name", b"-a"],
-        &[b"set", b"t", b"Name", b"a", b"--raw"],
-        &[b"set", b"t", b"Name", b"a", b"--locale", b"auto"],
-        &[b"set", b"t", b"Name", b"a", b"--discard-journal=1"],
-        &[b"remove", b"t"],
-        &[b"remove", b"t", b"Name", b"a"],
-        &[b"get", b"t", b"Name", b"--discard-journal"],
-        &[b"undo"],
-        &[b"undo", b"t", b"t"],
-        &[b"redo", b"t", b"--group", b"x"],
-        &[b"log", b"t", b"--discard-journal"],
-        &[b"\xFF"],
-    ];
-    for words in wrong {
-        let outcome = folder.run(words);
-        assert_eq!(outcome.status, 2, "{words:?}");
-        assert!(!outcome.told.is_empty(), "{words:?}");
-        assert!(outcome.out.is_empty());
-    }
-}
-
-#[test]
-fn help_and_version() {
-    let folder = Folder::new();
-    let helps: [(&[&[u8]], &[u8]); 3] = [
-        (&[b"--help"], b"Checks .desktop files"),
-        (&[b"-h"], b"Checks .desktop files"),
-        (&[b"get", b"--help"], b"Writes the value of a key"),
-    ];
-    for (words, start) in helps {
-        let outcome = folder.run(words);
-        assert_eq!(outcome.status, 0);
-        assert!(outcome.out.starts_with(start));
-    }
-    let version = concat!("kveldrim ", env!("CARGO_PKG_VERSION"), "\n");
-    folder.run(&[b"--version"]).writes(version.as_bytes());
 }

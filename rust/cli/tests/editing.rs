@@ -32,15 +32,13 @@ fn folder() -> Folder {
 impl Folder {
     /// Runs words that are accepted and write nothing.
     fn does(&self, words: &[&str]) {
-        let words: Vec<&[u8]> = words.iter().map(|word| word.as_bytes()).collect();
-        self.run(&words).writes(b"");
+        self.words(words).writes(b"");
     }
 
     /// Runs words that are refused, and tells so; the folder is as before.
     fn refuses(&self, status: i32, words: &[&str], told: &str) {
-        let words: Vec<&[u8]> = words.iter().map(|word| word.as_bytes()).collect();
         let before = self.all();
-        self.run(&words).tells(status, &[told]);
+        self.words(words).tells(status, &[told]);
         assert_eq!(self.all(), before);
     }
 

@@ -435,8 +435,7 @@ fn the_examples_of_the_document() {
         &["remove", "edited.desktop", "Icon"],
         &["undo", "edited.desktop"],
     ] {
-        let words: Vec<&[u8]> = words.iter().map(|word| word.as_bytes()).collect();
-        assert_eq!(folder.run(&words).status, 0);
+        assert_eq!(folder.words(words).status, 0);
     }
     write(folder.run(&[b"log", b"--json", b"edited.desktop"]));
     write(folder.run(&[b"expand", b"--json", b"good.desktop", b"a b.txt"]));

@@ -11,11 +11,6 @@ fn folder() -> Folder {
 }
 
 impl Folder {
-    fn words(&self, words: &[&str]) -> Outcome {
-        let words: Vec<&[u8]> = words.iter().map(|word| word.as_bytes()).collect();
-        self.run(&words)
-    }
-
     /// Three edits that stand.
     fn edited(self) -> Folder {
         self.words(&["set", "t", "Name", "Les"]).writes(b"");

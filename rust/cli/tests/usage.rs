@@ -12,8 +12,7 @@ const COMMANDS: [&str; 10] = [
 ];
 
 fn run(words: &[&str]) -> (i32, String, String) {
-    let words: Vec<&[u8]> = words.iter().map(|word| word.as_bytes()).collect();
-    let outcome = Folder::new().with(b"t", T).run(&words);
+    let outcome = Folder::new().with(b"t", T).words(words);
     let [out, told] = [outcome.out, outcome.told].map(|bytes| String::from_utf8(bytes).unwrap());
     (outcome.status, out, told)
 }

@@ -54,8 +54,7 @@ impl Folder {
     pub fn run_in_time(&self, words: &[&str]) -> Outcome {
         let mut command = Command::new("timeout");
         command.args(["20", env!("CARGO_BIN_EXE_kveldrim")]);
-        let words: Vec<&[u8]> = words.iter().map(|word| word.as_bytes()).collect();
-        self.run_by(command, &words)
+        self.run_by(command, &bytes(words))
     }
 
     /// Sets the mode of a file in the folder.
@@ -104,6 +103,15 @@ impl Folder {
     pub fn run(&self, words: &[&[u8]]) -> Outcome {
         self.run_in(&[], words)
     }
+
+    /// As [`Folder::run`], with words that are text.
+    pub fn words(&self, words: &[&str]) -> Outcome {
+        self.run(&bytes(words))
+    }
+}
+
+fn bytes<'a>(words: &[&'a str]) -> Vec<&'a [u8]> {
+    words.iter().map(|word| word.as_bytes()).collect()
 }
 
 impl Drop for Folder {
