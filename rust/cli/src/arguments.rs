@@ -15,12 +15,12 @@ pub struct Line {
 }
 
 const AFTER_HELP: &str = "\
-`kveldrim COMMAND --help` tells more of each. A word -- ends the options; - as FILE is standard input, for commands that only
-read. Faults are told as FILE:LINE:BYTE: what is wrong, as far as line and byte are known; both count from 1. On a terminal the
-line follows, with a caret under the byte.
+`kveldrim COMMAND --help` tells more of each. A word -- ends the options; - as FILE is standard input, for commands that \
+only read. Faults are told as FILE:LINE:BYTE: what is wrong, as far as line and byte are known; both count from 1. On a \
+terminal the line follows, with a caret under the byte.
 
-Exit status: 0 all is well; 1 a file, a question or an edit was refused; 2 bad usage, or a file that cannot be read or written;
-75 another kveldrim edits the file just now, so try again.";
+Exit status: 0 all is well; 1 a file, a question or an edit was refused; 2 bad usage, or a file that cannot be read or \
+written; 75 another kveldrim edits the file just now, so try again.";
 
 #[derive(Subcommand)]
 pub enum Command {
@@ -142,7 +142,8 @@ pub struct Change {
     /// Puts the journal aside under another name and starts a new one
     #[arg(long)]
     pub discard_journal: bool,
-    /// Gives no warning of a file that is no longer complete, or of a text that is not read back
+    /// Warns of nothing: neither of a file that is no longer complete, nor of an Exec that can no longer be expanded, nor of a
+    /// locale that is never read
     #[arg(long)]
     pub no_warn: bool,
     #[command(flatten)]
@@ -205,9 +206,9 @@ pub struct Log {
 
 #[derive(Args)]
 #[command(after_help = "\
-A run is one line: its arguments parted by spaces, quoted where needed, so that it can be pasted into dash, bash and zsh. With %f
-or %u in Exec each file has a run of its own, numbered from 0. Without --run and --all run 0 is written, and it is told on
-standard error if there are more.")]
+A run is one line: its arguments parted by spaces, quoted where needed, so that it can be pasted into dash, bash and zsh. \
+With %f or %u in Exec each file has a run of its own, numbered from 0. Without --run and --all run 0 is written, and it is \
+told on standard error if there are more.")]
 pub struct Expand {
     /// The file with the command, or - for standard input
     pub file: OsString,

@@ -97,6 +97,8 @@ fn zero_bytes_are_for_one_run() {
     assert_eq!((both.status, both.out.len()), (2, 0));
     let help = folder.expand(&[b"--help"]);
     let words = String::from_utf8(help.out).unwrap();
+    let words: Vec<&str> = words.split_whitespace().collect();
+    let words = words.join(" ");
     assert!(
         words.contains("not with --all: ask for each by --run N"),
         "{words}"
