@@ -1,7 +1,7 @@
 # What the Rust side is built with: Debian's packages, a cargo that is new enough, the proved library. Sourced by ./kveldrim and
 # .ci/run, which set `root` to the folder of the repository.
 
-root=$(cd "$root" && pwd)
+root=$(CDPATH='' cd -- "$root" && pwd)
 
 # Debian's packages of the crates that rust/cli/Cargo.toml names.
 crates="librust-clap-dev librust-clap-complete-dev librust-nix-dev librust-rustix-dev librust-serde-json-dev librust-sha2-dev
@@ -43,8 +43,14 @@ install_packages() {
 # Whether this cargo is there and is 1.85 or newer.
 is_new_enough() {
     version=$("$1" --version 2>/dev/null) || return 1
-    version=${version#cargo 1.}
-    [ "${version%%.*}" -ge 85 ] 2>/dev/null
+    case $version in
+    "cargo 1."*)
+        minor=${version#cargo 1.}
+        [ "${minor%%.*}" -ge 85 ] 2>/dev/null
+        ;;
+    "cargo "[2-9].*) ;;
+    *) return 1 ;;
+    esac
 }
 
 # Looks for a cargo that is new enough in the folders of the path.
@@ -96,7 +102,7 @@ run() {
     words=$1 word=$2 count=0
     shift 2
     { "$@" 2>&1 && echo "it is done" || echo "it has failed"; } | while IFS= read -r line; do
-        echo "$line" >>"$log"
+        printf '%s\n' "$line" >>"$log"
         case $line in
         *" $word "*)
             count=$((count + 1))
@@ -146,11 +152,12 @@ build() {
     fi
     exec 9>"$root/target/build.lock"
     flock 9
-    if is_built; then return 0; fi
-    if [ -z "${KVELDRIM_LIB:-}" ]; then
-        unset KVELDRIM_LIB
-        build_library
+    if ! is_built; then
+        if [ -z "${KVELDRIM_LIB:-}" ]; then
+            unset KVELDRIM_LIB
+            build_library
+        fi
+        build_command
     fi
-    build_command
     exec 9>&-
 }

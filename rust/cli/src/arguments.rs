@@ -156,7 +156,7 @@ pub struct Manner {
     /// Waits up to so many seconds for another kveldrim that edits the file
     #[arg(long, value_name = "SECONDS", default_value = "0", hide_default_value = true, value_parser = seconds)]
     pub wait: Duration,
-    /// Tells what would change, and changes nothing
+    /// Tells what would change, and changes nothing; whether you may write is not asked
     #[arg(long)]
     pub dry_run: bool,
 }

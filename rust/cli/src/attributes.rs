@@ -13,7 +13,7 @@ use xattr::FileExt;
 
 use crate::access::{Access, List, Person};
 use crate::disk::step;
-use crate::report::plain;
+use crate::report::{plain, shown};
 
 /// The extended attribute that holds the access list.
 const LIST: &str = "system.posix_acl_access";
@@ -132,7 +132,8 @@ impl Attributes {
 
 /// An extended attribute that a new file cannot be given.
 fn lost(name: &OsStr, error: &io::Error) -> io::Error {
-    let (name, reason) = (name.to_string_lossy(), plain(error));
+    let (name, reason) = (shown(name), plain(error));
+    let name = String::from_utf8_lossy(&name);
     io::Error::other(format!(
         "its extended attribute {name} cannot be kept: {reason}"
     ))

@@ -7,10 +7,12 @@ use std::path::{Path, PathBuf};
 use std::thread;
 use std::time::{Duration, Instant};
 
+use nix::unistd::geteuid;
 use rustix::fs::{flock, FlockOperation, OFlags};
 
 use crate::attributes::Attributes;
 use crate::names::Names;
+use crate::report::shown;
 
 /// A point at which the command may be killed; the tests kill it at each.
 #[cfg(not(test))]
@@ -40,7 +42,8 @@ pub fn lock(file: &Path, wait: Duration) -> io::Result<File> {
 /// The file, open and locked; none if it is no longer there under its name.
 fn lock_once(file: &Path) -> io::Result<Option<File>> {
     // A rename would replace a file that may not be written, so ask.
-    let open = open_plain(OpenOptions::new().read(true).write(true), file, "it")?;
+    let open = open_plain(OpenOptions::new().read(true).write(true), file, "it");
+    let open = open.map_err(|error| denied(error, "you may not write it"))?;
     take_lock(&open)?;
     Ok(is_at(&open, file)?.then_some(open))
 }
@@ -65,6 +68,14 @@ fn open_plain(options: &mut OpenOptions, path: &Path, what: &str) -> io::Result<
     match found {
         Ok(found) if !found.is_file() => Err(not_plain(what)),
         _ => opened,
+    }
+}
+
+/// The error, in other words if something is not allowed.
+fn denied(error: io::Error, words: &str) -> io::Error {
+    match error.kind() {
+        ErrorKind::PermissionDenied => io::Error::other(words),
+        _ => error,
     }
 }
 
@@ -110,23 +121,29 @@ pub fn content(open: &File, most: usize) -> io::Result<Vec<u8>> {
     Ok(bytes)
 }
 
-/// The bytes of a journal, at most one more than `most`; none if it is not there.
-pub fn read_journal(journal: &Path, most: usize) -> io::Result<Option<Vec<u8>>> {
+/// The bytes of a journal, at most one more than `most`, and what it is like; none if it is not there.
+pub fn read_journal(journal: &Path, most: usize) -> io::Result<Option<(Vec<u8>, Metadata)>> {
     let what = format!("its journal {}", name(journal));
     match open_plain(OpenOptions::new().read(true), journal, &what) {
-        Ok(open) => content(&open, most).map(Some),
+        Ok(open) => Ok(Some((content(&open, most)?, open.metadata()?))),
         Err(error) if error.kind() == ErrorKind::NotFound => Ok(None),
-        Err(error) if error.kind() == ErrorKind::PermissionDenied => {
-            Err(io::Error::other(format!("{what} may not be read")))
-        }
-        Err(error) => Err(error),
+        Err(error) => Err(denied(error, &format!("{what} may not be read"))),
     }
 }
 
 /// The last part of a path, for a message.
-fn name(path: &Path) -> String {
-    let name = path.file_name().unwrap_or_default();
-    name.to_string_lossy().into_owned()
+pub fn name(path: &Path) -> String {
+    let name = shown(path.file_name().unwrap_or_default());
+    String::from_utf8_lossy(&name).into_owned()
+}
+
+/// Whether a user who may write in a folder may replace a file there: in a sticky one only the owners of the file and of the
+/// folder may, and root.
+pub fn may_replace(uid: u32, file: &Metadata, folder: &Path) -> io::Result<bool> {
+    const STICKY: u32 = 0o1000;
+    let folder = fs::metadata(folder)?;
+    let is_sticky = folder.mode() & STICKY != 0;
+    Ok(!is_sticky || [0, file.uid(), folder.uid()].contains(&uid))
 }
 
 /// What is to be put on disk.
@@ -137,25 +154,44 @@ pub struct Replacement<'a> {
     /// A journal that belongs to both, and one that belongs to the new bytes alone.
     pub journal: &'a [u8],
     pub settled: &'a [u8],
-    /// An old journal to keep under another name.
-    pub aside: Option<&'a [u8]>,
+    /// The journal that is there, and whether it is to be kept under another name.
+    pub old_journal: Option<&'a [u8]>,
+    pub aside: bool,
 }
 
 /// Puts new bytes and a new journal in place of the old ones. After an error the old bytes and their journal are there. The
 /// open file is the locked one; the new file is locked too before it is there.
 pub fn replace(names: &Names, open: &File, with: &Replacement) -> io::Result<()> {
-    let like = Attributes::of(open)?;
-    if let Some(bytes) = with.aside {
-        put_aside(names, bytes, &like)?;
+    if !may_replace(geteuid().as_raw(), &open.metadata()?, &names.folder)? {
+        let words =
+            "its folder is sticky: only the owners of the file and of the folder may replace it";
+        return Err(io::Error::other(words));
     }
+    let like = Attributes::of(open)?;
+    let aside = with.old_journal.filter(|_| with.aside);
+    let aside = aside.map(|bytes| put_aside(names, bytes, &like));
+    let aside = aside.transpose()?;
     let new = Written::new(names.new_file(), with.new, &like)?;
-    let journal = Written::new(names.new_journal(), with.journal, &like)?;
-    journal.rename(names, names.journal())?;
-    unchanged(names, open, with.old)?;
-    let _locked = new.rename(names, names.file.clone())?;
-    // The edit is done. Where this fails, the journal that is there serves as well.
-    let _ = Written::new(names.new_journal(), with.settled, &like)
-        .and_then(|journal| journal.rename(names, names.journal()));
+    let put_journal = |bytes: &[u8]| {
+        let journal = Written::new(names.new_journal(), bytes, &like)?;
+        journal.rename(names, names.journal())
+    };
+    put_journal(with.journal)?;
+    let unchanged = unchanged(names, open, with.old);
+    let _locked = match unchanged.and_then(|()| new.rename(names, names.file.clone())) {
+        Ok(new) => new,
+        Err(error) => {
+            // Where this fails, the journal with both pairs serves the old bytes as well.
+            let _ = match with.old_journal {
+                Some(bytes) => put_journal(bytes).map(drop),
+                None => fs::remove_file(names.journal()),
+            };
+            return Err(error);
+        }
+    };
+    // The edit is done. Where this fails, the journal with both pairs serves the new bytes as well.
+    let _ = put_journal(with.settled);
+    aside.map(Written::keep);
     Ok(())
 }
 
@@ -169,17 +205,17 @@ fn unchanged(names: &Names, mut open: &File, bytes: &[u8]) -> io::Result<()> {
 }
 
 /// A copy of an old journal under the first free name.
-fn put_aside(names: &Names, bytes: &[u8], like: &Attributes) -> io::Result<()> {
+fn put_aside(names: &Names, bytes: &[u8], like: &Attributes) -> io::Result<Written> {
     for number in 1.. {
         match Written::free(names.aside(number), bytes, like) {
             Err(error) if error.kind() == ErrorKind::AlreadyExists => {}
-            written => return written.map(|mut written| written.path = None),
+            written => return written,
         }
     }
     Err(ErrorKind::AlreadyExists.into())
 }
 
-/// A file that was written aside, with all its bytes on disk. It is locked, and goes unless it is renamed.
+/// A file that was written aside, with all its bytes on disk. It is locked, and goes unless it is renamed or kept.
 struct Written {
     open: File,
     path: Option<PathBuf>,
@@ -197,7 +233,8 @@ impl Written {
     fn free(path: PathBuf, bytes: &[u8], like: &Attributes) -> io::Result<Written> {
         let mut options = OpenOptions::new();
         options.read(true).write(true).create_new(true).mode(0o600);
-        let open = options.open(&path)?;
+        let open = options.open(&path);
+        let open = open.map_err(|error| denied(error, "you may not write in its folder"))?;
         let mut written = Written {
             open,
             path: Some(path),
@@ -211,6 +248,10 @@ impl Written {
         written.open.sync_all()?;
         step();
         Ok(written)
+    }
+
+    fn keep(mut self) {
+        self.path = None;
     }
 
     /// A rename that is on disk before the next one starts, as far as the file system can do so. Answers the locked file.

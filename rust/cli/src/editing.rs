@@ -155,7 +155,7 @@ fn make(
     match manner.dry_run {
         true => {
             let line = |told: &Told| [&told.line(Tense::Conditional)[..], b"\n"].concat();
-            streams::write(&told.iter().flat_map(line).collect::<Vec<u8>>());
+            streams::put(&told.iter().flat_map(line).collect::<Vec<u8>>())?;
         }
         false => store.save(&document)?,
     }

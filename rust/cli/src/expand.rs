@@ -76,9 +76,16 @@ fn answer(expand: &Expand, file: &[u8]) -> Result<Vec<u8>, Trouble> {
         }
     };
     let mut bytes = Vec::new();
+    let mut has_control = false;
     for run in runs {
         let arguments = asked.arguments(run).map_err(told)?;
+        has_control |= arguments.iter().flatten().any(u8::is_ascii_control);
         bytes.extend(shown(expand, run, &arguments));
+    }
+    asked.tell_of_unused();
+    if has_control && !expand.null && !expand.json.json {
+        let words = "warning: an argument has control bytes, so do not paste this line into a terminal (--null and --json are safe)";
+        Trouble::note(&expand.file, words).tell();
     }
     Ok(bytes)
 }
@@ -114,6 +121,16 @@ impl Asked<'_> {
         if runs > 1 {
             let words = format!("this is run 0 of {runs}; --all writes them all, --run N another");
             Trouble::note(self.name, &words).tell();
+        }
+    }
+
+    /// Says on standard error that no file reaches the program, where there are some.
+    fn tell_of_unused(&self) {
+        let exec = kveldrim::lookup(self.file, DESKTOP_ENTRY, b"Exec");
+        let text = exec.and_then(kveldrim::read_text_vec).unwrap_or_default();
+        if !self.items.is_empty() && !b"fFuU".iter().any(|code| has_code(&text, *code)) {
+            let words = "Exec has none of %f, %F, %u and %U, so no file is handed to the program";
+            Trouble::note(self.name, words).tell();
         }
     }
 
@@ -206,13 +223,14 @@ const KEYWORDS: &[&[u8]] = &[
     b"while",
 ];
 
-/// An argument as dash, bash and zsh read it: bare where it is surely one word, else in single quotes. zsh takes a word with
-/// `=` at its front for a command's path.
+/// An argument as dash, bash and zsh read it: bare where it is surely one word, else in single quotes. At the front of a word `=`
+/// asks zsh for a command's path, and `%` a shell for a job.
 pub fn quoted(argument: &[u8]) -> Vec<u8> {
     let bare = |byte: &u8| byte.is_ascii_alphanumeric() || b"_-./:=@%+,".contains(byte);
     let is_bare = argument.iter().all(bare)
         && !argument.is_empty()
         && !argument.starts_with(b"=")
+        && !argument.starts_with(b"%")
         && !KEYWORDS.contains(&argument);
     if is_bare {
         return argument.to_vec();

@@ -4,6 +4,7 @@ use kveldrim::{Document, Edit, Edits, Refusal};
 use serde_json::{json, Value};
 
 use crate::json::text;
+use crate::report::is_harmful;
 
 /// What an edit does to the entry of a key. Values are raw, as they stand in the file.
 pub struct Told {
@@ -121,8 +122,8 @@ impl Told {
     }
 }
 
-/// The text of a raw value in quotes, in which a quote, a backslash, LF, tab and CR are escaped. A value whose escapes cannot be
-/// read is marked as raw.
+/// The text of a raw value in quotes, in which a quote, a backslash, LF, tab, CR and what alters a terminal are escaped. A value
+/// whose escapes cannot be read is marked as raw.
 fn quoted(raw: &[u8]) -> String {
     let (mark, text) = match kveldrim::read_text_vec(raw) {
         Ok(text) => ("", text),
@@ -135,6 +136,7 @@ fn quoted(raw: &[u8]) -> String {
             '\n' => words.push_str("\\n"),
             '\t' => words.push_str("\\t"),
             '\r' => words.push_str("\\r"),
+            _ if is_harmful(character) => words.extend(character.escape_unicode()),
             _ => words.push(character),
         }
     }

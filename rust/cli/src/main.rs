@@ -41,11 +41,10 @@ fn run(words: impl Iterator<Item = OsString>) -> ExitCode {
     let line = match Line::try_parse_from(words) {
         Ok(line) => line,
         Err(error) => {
-            // Help and the version come this way too; a reader that stops early is no error.
-            let _ = error.print();
+            // Help and the version come this way too.
             return match error.use_stderr() {
-                true => ExitCode::from(report::UNUSABLE),
-                false => ExitCode::SUCCESS,
+                true => report::misused(&error.to_string()),
+                false => streams::write(error.to_string().as_bytes()),
             };
         }
     };

@@ -7,7 +7,7 @@ use std::os::unix::ffi::OsStrExt;
 use std::path::Path;
 use std::process::ExitCode;
 
-use kveldrim::{Kind, Place, Refusal};
+use kveldrim::{Kind, Place, Refusal, DESKTOP_ENTRY};
 use serde_json::{json, Value};
 
 use crate::excerpt::excerpt;
@@ -31,7 +31,7 @@ pub struct Trouble {
 
 const REFUSED: u8 = 1;
 /// Bad usage, or a file that cannot be read or written.
-pub const UNUSABLE: u8 = 2;
+const UNUSABLE: u8 = 2;
 /// Another run edits the file; EX_TEMPFAIL of sysexits.
 const BUSY: u8 = 75;
 
@@ -134,15 +134,24 @@ impl Trouble {
 
     /// A file without a journal has just the bytes that a journal of no file belongs to.
     pub fn left_behind(file: &OsStr, journal: &Path, own: &Path) -> Trouble {
-        let [from, to] = [journal, own].map(|path| quoted(path.as_os_str().as_bytes()));
+        let [from, to] = [journal, own].map(|path| path.as_os_str().as_bytes());
+        let way_back = match [from, to].map(escaped) == [from, to] {
+            true => [
+                &b"mv -n "[..],
+                &quoted(from),
+                b" ",
+                &quoted(to),
+                b" gives it back",
+            ]
+            .concat(),
+            false => b"docs/JOURNAL.md tells how to rename it".to_vec(),
+        };
         let words = [
             b"it has no journal, but seems to have been renamed: the journal ",
             &shown(journal.file_name().unwrap_or_default())[..],
-            b" belongs to just these bytes (mv -n ",
-            &from,
-            b" ",
-            &to,
-            b" gives it back)",
+            b" belongs to just these bytes (",
+            &way_back,
+            b")",
         ];
         Trouble::new(file, words.concat(), REFUSED)
     }
@@ -218,7 +227,7 @@ impl Trouble {
         refusal: Refusal,
     ) -> Trouble {
         match refusal.kind {
-            Kind::Form => Trouble::new(file, FORMS, REFUSED),
+            Kind::Form => Trouble::new(file, form(group, key), REFUSED),
             Kind::Missing => Trouble::new(file, no_key(group, key), REFUSED),
             _ => Trouble::of_file(file, bytes, refusal),
         }
@@ -235,7 +244,7 @@ impl Trouble {
         let header = [b"[", group, b"]"].concat();
         let mut lines = bytes.split(|byte| *byte == b'\n');
         let words = match refusal.kind {
-            Kind::Form => FORMS.into(),
+            Kind::Form => form(group, key),
             Kind::Missing if lines.any(|line| line == header) => no_key(group, key),
             Kind::Missing => [b"there is no group ", &escaped(group)[..]].concat(),
             Kind::Unfit => UNFIT.into(),
@@ -281,15 +290,41 @@ impl Trouble {
     }
 }
 
+/// Tells what is wrong with the words of the command line. They may stand in it, as they came in.
+pub fn misused(words: &str) -> ExitCode {
+    let lines = words.split_inclusive('\n').map(|line| {
+        let text = line.strip_suffix('\n').unwrap_or(line);
+        [&escaped(text.as_bytes())[..], b"\n"].concat()
+    });
+    let _ = io::stderr().write_all(&lines.collect::<Vec<_>>().concat());
+    ExitCode::from(UNUSABLE)
+}
+
 /// Writes a warning that is about no file.
 pub fn warn(words: &[u8]) {
     Trouble::new(OsStr::new("kveldrim"), [b"warning: ", words].concat(), 0).tell();
 }
 
-/// What Form means to somebody at a keyboard.
-const FORMS: &str = "the group, key or locale asked for is not well written \
-    (a key has letters, digits and -, then perhaps [locale], but not beside --locale; \
-    a locale is as de, de_AT, de_AT.UTF-8 or de_AT.UTF-8@euro)";
+/// What Form means to somebody at a keyboard: which of the group, the key and the locale is not well written.
+fn form(group: &[u8], key: &[u8]) -> Vec<u8> {
+    let is_formed = |group: &[u8], key: &[u8]| {
+        let asked = kveldrim::lookup(b"[Desktop Entry]\n", group, key);
+        asked.is_err_and(|refusal| refusal.kind != Kind::Form)
+    };
+    let (wrong, words) = match () {
+        () if !is_formed(group, b"A") => (
+            group,
+            "is no name of a group; it has ASCII characters other than [ and ], so leave brackets out",
+        ),
+        () if !is_formed(DESKTOP_ENTRY, key) => (
+            key,
+            "is no key; it has letters A-Z a-z, digits and -, then perhaps one [locale], as de, de_AT, de_AT.UTF-8 or de_AT.UTF-8@euro",
+        ),
+        () if key.contains(&b'[') => (key, "has a [locale] already, so --locale cannot stand beside it"),
+        () => return b"the locale is not well written; it is as de, de_AT, de_AT.UTF-8 or de_AT.UTF-8@euro".to_vec(),
+    };
+    [&shown(OsStr::from_bytes(wrong))[..], b" ", words.as_bytes()].concat()
+}
 
 /// What Unfit means to somebody at a keyboard.
 const UNFIT: &str =
@@ -318,7 +353,10 @@ fn of_journal(file: &OsStr, before: &str, journal: &OsStr, after: &str) -> Troub
 /// A name in a message: control characters, ends of lines and marks of direction are escaped. Others stay as they are, and so do
 /// bytes that are not UTF-8.
 pub fn shown(name: &OsStr) -> Vec<u8> {
-    escaped(name.as_bytes())
+    match name.is_empty() {
+        true => b"''".to_vec(),
+        false => escaped(name.as_bytes()),
+    }
 }
 
 fn escaped(text: &[u8]) -> Vec<u8> {
@@ -340,7 +378,7 @@ fn escaped(text: &[u8]) -> Vec<u8> {
 }
 
 /// Whether a terminal may show a text otherwise than it is because of this character.
-fn is_harmful(character: char) -> bool {
+pub fn is_harmful(character: char) -> bool {
     let is_mark = matches!(
         character,
         '\u{61C}' | '\u{200E}' | '\u{200F}' | '\u{202A}'..='\u{202E}' | '\u{2066}'..='\u{2069}'
@@ -372,7 +410,7 @@ mod tests {
     fn names_are_shown_without_what_alters_a_terminal() {
         let shown = |name: &[u8]| shown(OsStr::from_bytes(name)).escape_ascii().to_string();
         let same = |name: &[u8]| assert_eq!(shown(name), name.escape_ascii().to_string());
-        same(b"");
+        assert_eq!(shown(b""), "\\'\\'");
         same("M\u{FC}ller \u{4E2D}\u{5D0} \\x1B.desktop".as_bytes());
         // Bytes that are not UTF-8, and letters with the bytes 0x80 to 0x9F in them.
         same(b"\xFF\x9B\xC2");

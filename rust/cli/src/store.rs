@@ -3,9 +3,11 @@
 use std::ffi::{OsStr, OsString};
 use std::fs::File;
 use std::io;
+use std::os::unix::fs::MetadataExt;
 use std::time::Duration;
 
 use kveldrim::{Document, FILE_BOUND};
+use nix::unistd::geteuid;
 
 use crate::disk::{self, Replacement};
 use crate::journal::{self, Pair};
@@ -22,8 +24,9 @@ pub struct Store {
     /// Locked while it is being edited.
     open: File,
     before: Pair,
-    has_journal: bool,
-    aside: Option<Vec<u8>>,
+    /// The bytes of its journal, if it has one.
+    journal: Option<Vec<u8>>,
+    discard: bool,
 }
 
 impl Store {
@@ -65,18 +68,16 @@ impl Store {
     fn of(file: &OsStr, names: Names, open: File, discard: bool) -> Result<Option<Store>, Trouble> {
         let unreadable = |error| Trouble::unreadable(file, &error);
         let bytes = disk::content(&open, FILE_BOUND).map_err(unreadable)?;
-        let mut journal =
-            disk::read_journal(&names.journal(), journal::MOST).map_err(unreadable)?;
-        let has_journal = journal.is_some();
-        let aside = journal.take_if(|_| discard);
-        let before = belonging(file, &names, bytes, journal)?;
+        let journal = journal_of(&names, &open).map_err(unreadable)?;
+        let used = journal.as_deref().filter(|_| !discard);
+        let before = belonging(file, &names, bytes, used)?;
         Ok(before.map(|before| Store {
             given: file.into(),
             names,
             open,
             before,
-            has_journal,
-            aside,
+            journal,
+            discard,
         }))
     }
 
@@ -98,17 +99,15 @@ impl Store {
     /// Where the file has no journal: one in its folder that belongs to just its bytes and to no other file there. The file
     /// seems to have been renamed.
     pub fn left_behind(&self) -> Option<Trouble> {
-        if self.has_journal {
+        if self.journal.is_some() {
             return None;
         }
         let folder = &self.names.folder;
         let journals = journals_without_file(folder).ok()?;
         let belongs = |name: &OsString| {
             let journal = disk::read_journal(&folder.join(name), journal::MOST);
-            let pairs = journal
-                .ok()
-                .flatten()
-                .and_then(|bytes| journal::read(&bytes));
+            let pairs = journal.ok().flatten();
+            let pairs = pairs.and_then(|(bytes, _)| journal::read(&bytes));
             pairs.is_some_and(|pairs| pairs.iter().any(|pair| pair.file == self.before.file))
         };
         let journal = folder.join(journals.into_iter().find(belongs)?);
@@ -131,7 +130,8 @@ impl Store {
             new: &after.file,
             journal: &journal::write(&[&after, &self.before]),
             settled: &journal::write(&[&after]),
-            aside: self.aside.as_deref(),
+            old_journal: self.journal.as_deref(),
+            aside: self.discard,
         };
         disk::replace(&self.names, &self.open, &replacement)
             .map_err(|error| uneditable(&self.given, &error))
@@ -145,17 +145,37 @@ fn uneditable(file: &OsStr, error: &io::Error) -> Trouble {
     }
 }
 
+/// The bytes of a file's journal, if it has one. Bytes that are too many for one are left alone, and so is a journal of somebody
+/// who may put files into the folder, but may not replace this one.
+fn journal_of(names: &Names, open: &File) -> io::Result<Option<Vec<u8>>> {
+    let path = names.journal();
+    let Some((bytes, like)) = disk::read_journal(&path, journal::MOST)? else {
+        return Ok(None);
+    };
+    let name = disk::name(&path);
+    if bytes.len() > journal::MOST {
+        let words = format!("{name} beside it is too long for a journal; move it away");
+        return Err(io::Error::other(words));
+    }
+    let is_own = like.uid() == geteuid().as_raw();
+    if !is_own && !disk::may_replace(like.uid(), &open.metadata()?, &names.folder)? {
+        let words = format!("its journal {name} was made by somebody who may not replace the file");
+        return Err(io::Error::other(words));
+    }
+    Ok(Some(bytes))
+}
+
 /// The pair of a journal that is of just this file: the newest, if it is of several. Without a journal there are no edits yet.
 fn belonging(
     file: &OsStr,
     names: &Names,
     bytes: Vec<u8>,
-    journal: Option<Vec<u8>>,
+    journal: Option<&[u8]>,
 ) -> Result<Option<Pair>, Trouble> {
     let Some(journal) = journal else {
         return Ok(Some(Pair::new(bytes)));
     };
-    let pairs = journal::read(&journal);
+    let pairs = journal::read(journal);
     let pairs = pairs.ok_or_else(|| Trouble::damaged(file, &names.journal_name()))?;
     Ok(pairs.into_iter().find(|pair| pair.file == bytes))
 }

@@ -27,11 +27,19 @@ pub fn read(file: &OsStr) -> Result<Vec<u8>, Trouble> {
     bytes.map_err(|error| Trouble::unreadable(file, &error))
 }
 
-/// Writes an answer. A reader that stops early has read what it wanted.
+/// Writes an answer; the status is what came of it.
 pub fn write(bytes: &[u8]) -> ExitCode {
+    match put(bytes) {
+        Ok(()) => ExitCode::SUCCESS,
+        Err(trouble) => trouble.tell(),
+    }
+}
+
+/// Writes an answer. A reader that stops early has read what it wanted.
+pub fn put(bytes: &[u8]) -> Result<(), Trouble> {
     let mut out = io::stdout().lock();
     match out.write_all(bytes).and_then(|()| out.flush()) {
-        Err(error) if error.kind() != ErrorKind::BrokenPipe => Trouble::unwritable(&error).tell(),
-        _ => ExitCode::SUCCESS,
+        Err(error) if error.kind() != ErrorKind::BrokenPipe => Err(Trouble::unwritable(&error)),
+        _ => Ok(()),
     }
 }

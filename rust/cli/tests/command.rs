@@ -208,11 +208,26 @@ fn get_tells_refusals() {
         &[b"get", b"t", b"Name", b"--group", b"X"],
         "t: there is no key Name in a group X",
     );
-    refused(&[b"get", b"t", b"Na me"], "t: the group, key or locale");
+    refused(
+        &[b"get", b"t", b"Na me"],
+        "t: Na me is no key; it has letters",
+    );
+    refused(&[b"get", b"t", b""], "t: '' is no key; it has letters");
+    refused(
+        &[b"get", b"t", b"Name", b"--group", b"[Desktop Entry]"],
+        "t: [Desktop Entry] is no name of a group; it has ASCII characters other than [ and ], so leave",
+    );
     refused(
         &[b"get", b"t", b"Name[fr]", b"--locale", b"fr"],
-        "t: the group, key or locale",
+        "t: Name[fr] has a [locale] already, so --locale cannot",
     );
+    refused(
+        &[b"get", b"t", b"Name", b"--locale", b"de_"],
+        "t: the locale is not well written; it is as de, de_AT",
+    );
+    folder
+        .run(&[b"get", b"", b"Name"])
+        .tells(2, &["'': cannot be read: No such file"]);
     refused(
         &[b"get", b"escape", b"Name"],
         "escape:3:11: \\q is no escape",

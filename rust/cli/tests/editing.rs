@@ -127,10 +127,10 @@ fn refused_edits_change_nothing() {
         &["set", "t", "Icon", "x", "--locale=de"],
         "t: Icon[de] needs the same key without a [locale] in its group",
     );
-    refuses(&["set", "t", "Na me", "x"], "t: the group, key or locale");
+    refuses(&["set", "t", "Na me", "x"], "t: Na me is no key; it has");
     refuses(
         &["set", "t", "Name[fr]", "x", "--locale=fr"],
-        "t: the group, key or locale",
+        "t: Name[fr][fr] is no key; it has letters A-Z a-z, digits and -, then perhaps one [locale]",
     );
     refuses(
         &["set", "t", "Name", "x", "--group", "X"],
@@ -461,21 +461,22 @@ fn a_folder_or_a_file_that_cannot_be_written_as_root() {
     let shared = Shared::new();
     let run = |words: &[&[u8]]| folder.run_by(shared.command(65_534, 65_534, None), words);
     let before = folder.all();
-    let refuses = |words: &[&[u8]]| {
-        run(words).tells(2, &["t: cannot be edited: Permission denied"]);
-        assert_eq!(folder.all(), before);
+    let refuses = |why: &str| {
+        let told = format!("t: cannot be edited: {why}");
+        for words in [&[&b"set"[..], b"t", b"Name", b"x"][..], &[b"undo", b"t"]] {
+            run(words).tells(2, &[&told]);
+            assert_eq!(folder.all(), before);
+        }
     };
     // The folder is read-only, and the file is not.
     folder.mode("t", 0o666);
     folder.mode(".", 0o555);
-    refuses(&[b"set", b"t", b"Name", b"x"]);
-    refuses(&[b"undo", b"t"]);
+    refuses("you may not write in its folder");
     run(&[b"log", b"t"]).writes(b"stands: Name in Desktop Entry: \"Lesen\" became \"Les\"\n");
     // The file is read-only, and the folder is not.
     folder.mode("t", 0o444);
     folder.mode(".", 0o777);
-    refuses(&[b"set", b"t", b"Name", b"x"]);
-    refuses(&[b"undo", b"t"]);
+    refuses("you may not write it");
     // The journal may not be read.
     folder.mode("t", 0o666);
     folder.mode(JOURNAL, 0o600);
@@ -483,6 +484,25 @@ fn a_folder_or_a_file_that_cannot_be_written_as_root() {
     run(&[b"log", b"t"]).tells(2, &[told]);
     run(&[b"undo", b"t"]).tells(2, &[told]);
     assert_eq!(folder.all(), before);
+}
+
+/// A journal is put aside whole or not at all, and only with an edit that is made.
+#[test]
+fn a_journal_that_is_not_put_aside() {
+    let folder = folder().with(JOURNAL.as_bytes(), &[b'x'; 300_000]);
+    let set = ["set", "t", "Name", "x", "--discard-journal"];
+    let told = "t: cannot be read: .t.kveldrim-journal beside it is too long for a journal";
+    for words in [&set[..], &["undo", "t"], &["log", "t"]] {
+        folder.refuses(2, words, told);
+    }
+    let folder = folder.with(JOURNAL.as_bytes(), b"x");
+    fs::create_dir(folder.0.join(".t.kveldrim-new")).unwrap();
+    for _ in 0..2 {
+        folder.refuses(2, &set, "t: cannot be edited: .t.kveldrim-new beside it");
+    }
+    fs::remove_dir(folder.0.join(".t.kveldrim-new")).unwrap();
+    folder.does(&set);
+    assert_eq!(folder.read(".t.kveldrim-journal-1"), b"x");
 }
 
 /// What may stand where a plain file is expected.

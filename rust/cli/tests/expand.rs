@@ -156,7 +156,6 @@ fn lines_can_be_pasted_into_dash_bash_and_zsh() {
         b"x''",
         b"$HOME",
         b"`ls`",
-        b"a\nb",
         b"~",
         b"~root",
         b"*",
@@ -175,7 +174,7 @@ fn lines_can_be_pasted_into_dash_bash_and_zsh() {
         b"&",
         b"-n",
         b"%",
-        b"a\tb",
+        b"%1",
         b"\xFF\xFE",
     ];
     let line = folder.expand(&[&[&b"t"[..], b"--"], items].concat());
@@ -197,6 +196,37 @@ fn lines_can_be_pasted_into_dash_bash_and_zsh() {
             .unwrap_or_else(|error| panic!("Debian's package {} is needed: {error}", shell[0]));
         let (out, expected) = (read.stdout.escape_ascii(), expected.escape_ascii());
         assert_eq!(out.to_string(), expected.to_string(), "{shell:?}");
+    }
+}
+
+/// A terminal acts on control bytes while a line is pasted, whatever the quotes.
+#[test]
+fn control_bytes_are_warned_of() {
+    let folder = with_exec("view %F");
+    let outcome = folder.expand(&[b"t", b"x\x03\ny"]);
+    assert_eq!(
+        (outcome.status, &outcome.out[..]),
+        (0, &b"view 'x\x03\ny'\n"[..])
+    );
+    assert!(outcome
+        .told
+        .starts_with(b"t: warning: an argument has control bytes"));
+    folder
+        .expand(&[b"--null", b"t", b"x\x03\ny"])
+        .writes(b"view\0x\x03\ny\0");
+    folder
+        .expand(&[b"--json", b"t", b"\x03"])
+        .writes(b"{\"arguments\":[\"view\",\"\\u0003\"],\"run\":0}\n");
+}
+
+/// No pupil's file is left out unseen.
+#[test]
+fn files_that_exec_does_not_take_are_told_of() {
+    for exec in ["view", "view %c", "view %%f"] {
+        let outcome = with_exec(exec).expand(&[b"t", b"a", b"b"]);
+        assert_eq!(outcome.status, 0);
+        let told = "t: Exec has none of %f, %F, %u and %U, so no file is handed to the program\n";
+        assert_eq!(String::from_utf8(outcome.told).unwrap(), told);
     }
 }
 

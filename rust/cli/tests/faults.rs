@@ -375,10 +375,7 @@ fn messages_hold_nothing_that_alters_a_terminal() {
         &[b"check", b"\x1Ba"],
         "\\x1Ba: cannot be read: No such file or directory\n",
     );
-    told(
-        &[b"get", b"t", b"\x1B"],
-        "t: the group, key or locale asked for",
-    );
+    told(&[b"get", b"t", b"\x1B"], "t: \\x1B is no key; ");
     told(
         &[b"get", b"t", b"Name", b"--group", b"Desktop"],
         "t: there is no key Name in a group Desktop\n",
@@ -392,8 +389,22 @@ fn messages_hold_nothing_that_alters_a_terminal() {
             b"--group",
             "\u{202E}".as_bytes(),
         ],
-        "t: the group, key or locale asked for",
+        "t: \\xE2\\x80\\xAE is no name of a group; ",
     );
+    for usage in [&[&b"\x1B[1m"[..]][..], &[b"check", b"--\x1B", b"t"]] {
+        let outcome = folder.run(usage);
+        assert!(outcome.told.starts_with(b"error: ") && outcome.status == 2);
+        assert!(
+            !outcome.told.contains(&0x1B),
+            "{}",
+            outcome.told.escape_ascii()
+        );
+    }
+    fs::create_dir(folder.0.join(".a\n.kveldrim-journal")).unwrap();
+    fs::write(folder.0.join("a\n"), T).unwrap();
+    let journal =
+        "a\\x0A: cannot be read: its journal .a\\x0A.kveldrim-journal is not a plain file\n";
+    told(&[b"log", b"a\n"], journal);
     told(&[b"get", b".", b"Name"], ".: cannot be read: ");
     told(
         &[b"get", b"absent", b"Name"],

@@ -52,6 +52,7 @@ impl Checkout {
             "rust/kveldrim/src/lib.rs",
             "rust/cli/Cargo.toml",
             "rust/cli/src/main.rs",
+            "rust/cli/src/faults/line.rs",
         ] {
             checkout.write(source, "");
             checkout.is_of(source, 3600);
@@ -141,6 +142,10 @@ fn what_is_built_runs_at_once() {
     let mut command = Command::new(checkout.path("link"));
     command.env_clear().env("PATH", checkout.path("bin"));
     checkout.0.run_by(command, &[b"log"]).writes(b"[log]");
+    // As a script of a shell, from its own folder.
+    let mut command = Command::new("sh");
+    command.arg("kveldrim").env("PATH", checkout.path("bin"));
+    checkout.0.run_by(command, &[b"a"]).writes(b"[a]");
     assert_eq!(checkout.called(), "");
 }
 
@@ -148,6 +153,7 @@ fn what_is_built_runs_at_once() {
 fn what_is_older_than_its_sources_is_built() {
     for (source, called) in [
         ("rust/cli/src/main.rs", "cargo\n"),
+        ("rust/cli/src/faults/line.rs", "cargo\n"),
         ("rust/kveldrim/build.rs", "cargo\n"),
         ("crates.txt", "rt\ncargo\n"),
         ("crates/a/src/lib.rt", "rt\ncargo\n"),
@@ -156,7 +162,10 @@ fn what_is_older_than_its_sources_is_built() {
         checkout.is_of("rust/target/release/kveldrim", 60);
         checkout.is_of("target/staticlib/libkveldrim.a", 60);
         checkout.is_of(source, 0);
-        let outcome = checkout.run(&[b"a b"]);
+        // A path that `cd` would tell of changes nothing.
+        let mut command = checkout.command();
+        command.env("CDPATH", ".");
+        let outcome = checkout.0.run_by(command, &[b"a b"]);
         assert_eq!(outcome.out.escape_ascii().to_string(), "new[a b]");
         assert_eq!(outcome.status, 0);
         let told = String::from_utf8(outcome.told).unwrap();

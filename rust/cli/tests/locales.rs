@@ -69,7 +69,7 @@ fn what_is_no_locale_is_passed_over() {
     // One that was asked for by its name is refused.
     folder()
         .run(&[b"get", b"t", b"Name", b"--locale", b"de utf8"])
-        .tells(1, &["t: the group, key or locale"]);
+        .tells(1, &["t: the locale is not well written; it is as"]);
 }
 
 #[test]

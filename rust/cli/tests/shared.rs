@@ -273,6 +273,51 @@ fn an_attribute_that_cannot_be_kept_as_root() {
     assert_eq!(folder.access("t"), (GAMES.0, GAMES.1, 0o644));
 }
 
+/// In a sticky folder a file is replaced by its owner alone. Who may not is told before anything is written.
+#[test]
+fn a_sticky_folder_as_root() {
+    let shared = Shared::new();
+    let folder = owned(GAMES, 0o666, 0o755);
+    chown(&folder.0, Some(0), Some(0)).unwrap();
+    folder.mode(".", 0o1777);
+    let man = || shared.command(MAN.0, MAN.1, None);
+    let games = || shared.command(GAMES.0, GAMES.1, None);
+    let told = "t: cannot be edited: its folder is sticky: only the owners of the file and of the folder may replace it";
+    folder.run_by(man(), &SET).tells(2, &[told]);
+    assert_eq!(folder.names(), ["t"]);
+    folder.run_by(games(), &SET).writes(b"");
+    // A set of the value that is there would change no byte; it is refused all the same.
+    let (edited, journal) = (folder.read("t"), folder.read(JOURNAL));
+    folder.run_by(man(), &SET).tells(2, &[told]);
+    assert_eq!((folder.read("t"), folder.read(JOURNAL)), (edited, journal));
+    folder.run_by(games(), &[b"undo", b"t"]).writes(b"");
+    assert_eq!(folder.read("t"), T);
+}
+
+/// Somebody who may put files into a sticky folder, but may not replace one there, cannot do so by a journal.
+#[test]
+fn a_journal_of_somebody_else_as_root() {
+    let shared = Shared::new();
+    let games = || shared.command(GAMES.0, GAMES.1, None);
+    let own = owned(MAN, 0o644, 0o755);
+    own.run_by(shared.command(MAN.0, MAN.1, None), &SET)
+        .writes(b"");
+    let folder = owned(GAMES, 0o644, 0o1777);
+    fs::write(folder.0.join("t"), own.read("t")).unwrap();
+    let folder = folder.with(JOURNAL.as_bytes(), &own.read(JOURNAL));
+    let journal = folder.0.join(JOURNAL);
+    chown(&journal, Some(MAN.0), Some(MAN.1)).unwrap();
+    let told = "t: cannot be read: its journal .t.kveldrim-journal was made by somebody who may not replace the file";
+    for words in [&[&b"undo"[..], b"t"][..], &[b"log", b"t"], &SET] {
+        folder.run_by(games(), words).tells(2, &[told]);
+        assert_eq!(folder.read("t"), own.read("t"));
+    }
+    // Where the folder is not sticky, he may replace the file as well.
+    folder.mode(".", 0o777);
+    folder.run_by(games(), &[b"undo", b"t"]).writes(b"");
+    assert_eq!(folder.read("t"), T);
+}
+
 /// A killed run of one user does not hold up another, whatever rights its files have.
 #[test]
 fn what_another_user_left_behind_as_root() {

@@ -2,6 +2,8 @@
 
 mod common;
 
+use std::process::Command;
+
 use common::{Folder, Outcome, T};
 
 const JOURNAL: &str = ".t.kveldrim-journal";
@@ -174,6 +176,32 @@ fn the_log_quotes_texts() {
         b"stands: B in Desktop Entry: \"\\\"x\\\" became \\\"y\" became \"a\\\" became \\\"b\\\\\\n\\t\"\n\
         stands: Name in Desktop Entry: raw \"a\\\\q\" became \" n\"\n",
     );
+}
+
+/// What alters a terminal is written as an escape.
+#[test]
+fn the_log_is_safe_on_a_terminal() {
+    let folder = folder();
+    let name = "a\u{9B}31m\u{202E}b\u{2028}\u{FC}";
+    let words = "\"Lesen\" would become \"a\\u{9b}31m\\u{202e}b\\u{2028}\u{FC}\"\n";
+    folder
+        .words(&["set", "t", "Name", name, "--dry-run"])
+        .writes(format!("Name in Desktop Entry: {words}").as_bytes());
+}
+
+#[test]
+fn a_dry_run_that_cannot_be_written() {
+    let folder = folder();
+    let mut command = Command::new("sh");
+    command.args([
+        "-c",
+        "exec \"$0\" \"$@\" > /dev/full",
+        env!("CARGO_BIN_EXE_kveldrim"),
+    ]);
+    let told = "kveldrim: the answer cannot be written: No space left on device";
+    folder
+        .run_by(command, &[b"set", b"t", b"Name", b"x", b"--dry-run"])
+        .tells(2, &[told]);
 }
 
 #[test]

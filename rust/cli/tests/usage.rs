@@ -154,14 +154,11 @@ fn a_reader_that_stops_early() {
 #[test]
 fn an_answer_that_cannot_be_written() {
     let folder = Folder::new().with(b"t", T);
-    let mut command = Command::new("sh");
-    command.args([
-        "-c",
-        "exec \"$0\" \"$@\" > /dev/full",
-        env!("CARGO_BIN_EXE_kveldrim"),
-    ]);
-    folder.run_by(command, &[b"get", b"t", b"Name"]).tells(
-        2,
-        &["kveldrim: the answer cannot be written: No space left on device"],
-    );
+    let script = "exec \"$0\" \"$@\" > /dev/full";
+    for words in [&[&b"get"[..], b"t", b"Name"][..], &[b"--help"]] {
+        let mut command = Command::new("sh");
+        command.args(["-c", script, env!("CARGO_BIN_EXE_kveldrim")]);
+        let told = "kveldrim: the answer cannot be written: No space left on device";
+        folder.run_by(command, words).tells(2, &[told]);
+    }
 }
