@@ -197,16 +197,21 @@ impl Search {
         }
     }
 
-    /// Tells entries before the first header, and wrong and repeated headers. Answers whether Desktop Entry comes first.
+    /// Tells what comes first if it is not Desktop Entry, unless a bad line before may have been meant so, and repeated headers.
+    /// Answers whether Desktop Entry comes first.
     fn headers(&mut self, file: &[u8], rows: &[Row]) -> bool {
         let mut heads = heads(rows);
+        let bad = rows.iter().find(|row| row.is_guess);
+        let bad = bad.map_or(usize::MAX, |row| row.number);
         let mut is_first = heads.first().is_some_and(|row| row.text != ILLEGIBLE);
         give_name(&mut heads);
         while let Some((kind, index)) = first_fault(&heads, check) {
             match (kind, index) {
                 (Kind::First, Some(index)) => {
+                    if is_first && heads[index].number < bad {
+                        self.tell(kind, &heads[index]);
+                    }
                     is_first = false;
-                    self.tell(kind, &heads[index]);
                     put_entry_first(&mut heads, index);
                 }
                 (Kind::GroupTwice, Some(index)) => {
@@ -343,11 +348,13 @@ fn meant(line: &[u8]) -> Vec<u8> {
             Some(_) => ILLEGIBLE.into(),
         };
     }
-    let key = line.split(|byte| *byte == b'=').next().unwrap_or_default();
-    let entry = [key.trim_ascii_end(), b"="].concat();
-    match bad_byte(&entry) {
-        None if !entry.contains(&b'[') => entry,
-        _ => Vec::new(),
+    let is_key = |byte: &&u8| byte.is_ascii_alphanumeric() || **byte == b'-';
+    let (key, rest) = line.split_at(line.iter().take_while(is_key).count());
+    match rest.trim_ascii_start().first() {
+        // The plain key may be missing.
+        Some(b'[') => Vec::new(),
+        _ if key.is_empty() => Vec::new(),
+        _ => [key, b"="].concat(),
     }
 }
 
