@@ -191,7 +191,9 @@ pub fn replace(names: &Names, open: &File, with: &Replacement) -> io::Result<()>
     };
     // The edit is done. Where this fails, the journal with both pairs serves the new bytes as well.
     let _ = put_journal(with.settled);
-    aside.map(Written::keep);
+    if let Some(aside) = aside {
+        aside.keep();
+    }
     Ok(())
 }
 
@@ -296,17 +298,14 @@ fn remove_left_over(path: &Path) -> io::Result<()> {
 
 #[cfg(test)]
 mod tests {
-    use std::{env, process};
-
     use super::*;
+    use crate::kills::Place;
 
     /// Who has the lock has the file that its name leads to, however often others replace it.
     #[test]
     fn a_lock_is_of_the_file_in_place() {
-        let folder = env::temp_dir().join(format!("kveldrim-disk-{}", process::id()));
-        fs::create_dir(&folder).unwrap();
-        let file = folder.join("t");
-        fs::write(&file, b"").unwrap();
+        let place = Place::new(b"");
+        let file = place.file();
         let replace = |new: &Path| {
             let open = loop {
                 match lock(&file, Duration::ZERO) {
@@ -321,10 +320,9 @@ mod tests {
         };
         thread::scope(|scope| {
             for editor in ["a", "b", "c"] {
-                let (folder, replace) = (&folder, &replace);
-                scope.spawn(move || (0..1_000).for_each(|_| replace(&folder.join(editor))));
+                let (place, replace) = (&place, &replace);
+                scope.spawn(move || (0..1_000).for_each(|_| replace(&place.0.join(editor))));
             }
         });
-        fs::remove_dir_all(folder).unwrap();
     }
 }

@@ -128,7 +128,7 @@ impl Asked<'_> {
     fn tell_of_unused(&self) {
         let exec = kveldrim::lookup(self.file, DESKTOP_ENTRY, b"Exec");
         let text = exec.and_then(kveldrim::read_text_vec).unwrap_or_default();
-        if !self.items.is_empty() && !b"fFuU".iter().any(|code| has_code(&text, *code)) {
+        if !self.items.is_empty() && faults::file_code(&text).is_none() {
             let words = "Exec has none of %f, %F, %u and %U, so no file is handed to the program";
             Trouble::note(self.name, words).tell();
         }
@@ -190,7 +190,8 @@ impl Asked<'_> {
         };
         let chosen = |key| kveldrim::choose_ends(self.file, DESKTOP_ENTRY, key, &self.locale);
         let name = chosen(b"Name").unwrap_or(0..0);
-        if has_code(&text, b'c') && kveldrim::read_text_vec(&self.file[name.clone()]).is_err() {
+        let has_name = faults::codes(&text).any(|code| code == b'c');
+        if has_name && kveldrim::read_text_vec(&self.file[name.clone()]).is_err() {
             return name.start + place;
         }
         chosen(b"Icon").unwrap_or(0..0).start + place
@@ -246,15 +247,4 @@ fn raw_place(raw: &[u8], place: usize) -> usize {
         at += if raw.get(at) == Some(&b'\\') { 2 } else { 1 };
     }
     at.min(raw.len())
-}
-
-/// Whether a well-written command has this code; in quotes it has only `%%`.
-fn has_code(text: &[u8], code: u8) -> bool {
-    let mut bytes = text.iter();
-    while let Some(byte) = bytes.next() {
-        if *byte == b'%' && bytes.next() == Some(&code) {
-            return true;
-        }
-    }
-    false
 }

@@ -12,7 +12,7 @@ use std::os::unix::ffi::OsStrExt;
 use kveldrim::{Kind, Place, Refusal, DESKTOP_ENTRY};
 
 pub use all::all;
-pub use exec::words as exec;
+pub use exec::{codes, file_code, words as exec};
 
 use crate::excerpt::is_seen;
 use crate::report::shown;

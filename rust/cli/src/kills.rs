@@ -66,9 +66,14 @@ fn child() {
 type Folder = BTreeMap<OsString, Vec<u8>>;
 
 /// A folder of a test's own, removed at the end.
-struct Place(PathBuf);
+pub struct Place(pub PathBuf);
 
 impl Place {
+    /// A folder with the file `t` alone.
+    pub fn new(file: &[u8]) -> Place {
+        Place::with(&Folder::from([("t".into(), file.to_vec())]))
+    }
+
     fn with(content: &Folder) -> Place {
         static NUMBER: AtomicU32 = AtomicU32::new(0);
         let number = NUMBER.fetch_add(1, Ordering::Relaxed);
@@ -93,7 +98,7 @@ impl Place {
             .collect()
     }
 
-    fn file(&self) -> PathBuf {
+    pub fn file(&self) -> PathBuf {
         self.0.join("t")
     }
 
@@ -145,7 +150,7 @@ fn found(file: &Path) -> Pair {
 /// The command killed at each step, from the same start: the next run finds the start or the end, whole.
 fn killed_at_each_step(setup: &[&[&str]], words: &[&str]) {
     let file = b"[Desktop Entry]\nName=Lesen\nName[fr]=Lire\nExec=view";
-    let first = Place::with(&Folder::from([("t".into(), file.to_vec())]));
+    let first = Place::new(file);
     for words in setup {
         assert!(first.run(words, None));
     }
@@ -244,7 +249,7 @@ fn a_new_journal() {
 /// Another program changes the file while an edit is under way, in one of two ways. Up to the last step before the file is
 /// replaced, its bytes stay and the edit is refused; the journal keeps all that it had.
 fn changed_at_each_step(how: &str, bytes: &[u8]) {
-    let first = Place::with(&Folder::from([("t".into(), b"[Desktop Entry]\n".to_vec())]));
+    let first = Place::new(b"[Desktop Entry]\n");
     assert!(first.run(&["set", "Name", "Les"], None));
     let start = first.content();
     let mut refused = 0;
@@ -282,7 +287,7 @@ fn a_replacement_during_an_edit() {
 fn no_more_rights(owner: u32, mode: u32, list: &str) {
     for step in 1.. {
         let file = b"[Desktop Entry]\nName=Lesen\n";
-        let place = Place::with(&Folder::from([("t".into(), file.to_vec())]));
+        let place = Place::new(file);
         chown(place.file(), Some(owner), None).unwrap();
         fs::set_permissions(place.file(), Permissions::from_mode(mode)).unwrap();
         if !list.is_empty() {
@@ -335,7 +340,7 @@ fn setfacl(words: &[&str], path: &Path) {
 /// The old file and then the new one are locked from the first step to the last.
 #[test]
 fn locked_at_every_step() {
-    let place = Place::with(&Folder::from([("t".into(), b"[Desktop Entry]\n".to_vec())]));
+    let place = Place::new(b"[Desktop Entry]\n");
     let mut command = place.command(&["set", "Name", "Les"]);
     let outcome = command.env(LOCKED, place.file()).output().unwrap();
     let told = String::from_utf8_lossy(&outcome.stderr);

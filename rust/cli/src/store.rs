@@ -182,58 +182,37 @@ fn belonging(
 
 #[cfg(test)]
 mod tests {
-    use std::path::PathBuf;
     use std::sync::atomic::{AtomicBool, Ordering};
     use std::time::Instant;
-    use std::{env, fs, process, thread};
+    use std::{fs, thread};
 
     use super::*;
+    use crate::kills::Place;
 
     const LONG: Duration = Duration::from_secs(60);
 
-    /// A file of a test's own, in a folder of its own, removed at the end.
-    struct Place(PathBuf);
+    const FILE: &[u8] = b"[Desktop Entry]\n";
 
-    impl Place {
-        fn new(name: &str) -> Place {
-            let name = format!("kveldrim-store-{}-{name}", process::id());
-            let place = Place(env::temp_dir().join(name));
-            fs::create_dir(&place.0).unwrap();
-            fs::write(place.file(), b"[Desktop Entry]\n").unwrap();
-            place
-        }
-
-        fn file(&self) -> PathBuf {
-            self.0.join("t")
-        }
-
-        /// Sets a key; the status of what went wrong.
-        fn set(&self, key: &str, wait: Duration) -> Result<(), u8> {
-            let saved = Store::edit(self.file().as_os_str(), false, wait).and_then(|store| {
-                let mut document = store.document();
-                document
-                    .set(b"Desktop Entry", key.as_bytes(), b"x")
-                    .unwrap();
-                store.save(&document)
-            });
-            saved.map_err(|trouble| trouble.status())
-        }
-    }
-
-    impl Drop for Place {
-        fn drop(&mut self) {
-            let _ = fs::remove_dir_all(&self.0);
-        }
+    /// Sets a key; the status of what went wrong.
+    fn set(place: &Place, key: &str, wait: Duration) -> Result<(), u8> {
+        let saved = Store::edit(place.file().as_os_str(), false, wait).and_then(|store| {
+            let mut document = store.document();
+            document
+                .set(b"Desktop Entry", key.as_bytes(), b"x")
+                .unwrap();
+            store.save(&document)
+        });
+        saved.map_err(|trouble| trouble.status())
     }
 
     #[test]
     fn an_editor_waits_as_long_as_it_is_told() {
-        let place = Place::new("waits");
+        let place = Place::new(FILE);
         let open = disk::lock(&place.file(), Duration::ZERO).unwrap();
         let start = Instant::now();
-        assert_eq!(place.set("A", Duration::ZERO), Err(75));
+        assert_eq!(set(&place, "A", Duration::ZERO), Err(75));
         let wait = Duration::from_millis(100);
-        assert_eq!(place.set("A", wait), Err(75));
+        assert_eq!(set(&place, "A", wait), Err(75));
         assert!(start.elapsed() >= wait);
         thread::scope(|scope| {
             scope.spawn(|| {
@@ -241,7 +220,7 @@ mod tests {
                 drop(open);
             });
             let start = Instant::now();
-            assert_eq!(place.set("A", LONG), Ok(()));
+            assert_eq!(set(&place, "A", LONG), Ok(()));
             assert!(start.elapsed() >= wait / 2);
         });
         let content = fs::read(place.file()).unwrap();
@@ -250,14 +229,14 @@ mod tests {
 
     #[test]
     fn editors_that_wait_all_come_to_their_turn() {
-        let place = Place::new("turns");
+        let place = Place::new(FILE);
         thread::scope(|scope| {
             for editor in 0..4 {
                 let place = &place;
                 scope.spawn(move || {
                     for number in 0..12 {
                         let key = format!("X-{editor}-{number}");
-                        assert_eq!(place.set(&key, LONG), Ok(()));
+                        assert_eq!(set(place, &key, LONG), Ok(()));
                     }
                 });
             }
@@ -271,7 +250,7 @@ mod tests {
     /// A reader may find the file of before and the journal of after.
     #[test]
     fn readers_find_a_pair_at_any_time() {
-        let place = Place::new("readers");
+        let place = Place::new(FILE);
         let look = || Store::look(place.file().as_os_str(), false);
         let done = AtomicBool::new(false);
         thread::scope(|scope| {
@@ -284,7 +263,7 @@ mod tests {
             }
             for number in 0..150 {
                 // Until it starts its program, a child of another test has the locks of this process too.
-                let set = place.set(&format!("X-{number}"), LONG);
+                let set = set(&place, &format!("X-{number}"), LONG);
                 done.store(number == 149 || set.is_err(), Ordering::Relaxed);
                 assert_eq!(set, Ok(()));
             }
@@ -293,8 +272,8 @@ mod tests {
 
     #[test]
     fn a_reader_may_pass_over_the_journal() {
-        let place = Place::new("passes");
-        assert_eq!(place.set("A", Duration::ZERO), Ok(()));
+        let place = Place::new(FILE);
+        assert_eq!(set(&place, "A", Duration::ZERO), Ok(()));
         fs::write(place.file(), b"[Desktop Entry]\n# A\n").unwrap();
         let look = |discard| Store::look(place.file().as_os_str(), discard);
         assert_eq!(look(false).err().map(|trouble| trouble.status()), Some(1));

@@ -174,16 +174,17 @@ fn closing_quote(text: &[u8], open: usize) -> Option<usize> {
     }
 }
 
-/// The first code for files in the well-written start of a command; in quotes it has only `%%`.
-fn file_code(text: &[u8]) -> Option<char> {
-    let mut bytes = text.iter();
-    while let Some(byte) = bytes.next() {
-        if *byte == b'%' {
-            let letter = *bytes.next()? as char;
-            if "fFuU".contains(letter) {
-                return Some(letter);
-            }
-        }
-    }
-    None
+/// The letters of the codes in a well-written command or the start of one; in quotes it has only `%%`.
+pub fn codes(text: &[u8]) -> impl Iterator<Item = u8> + '_ {
+    let mut bytes = text.iter().copied();
+    std::iter::from_fn(move || {
+        bytes.find(|byte| *byte == b'%')?;
+        bytes.next()
+    })
+}
+
+/// The letter of the first code for files.
+pub fn file_code(text: &[u8]) -> Option<char> {
+    let code = codes(text).find(|code| b"fFuU".contains(code));
+    code.map(char::from)
 }
