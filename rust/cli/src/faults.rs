@@ -153,7 +153,7 @@ fn key_twice(lines: &[&[u8]], number: usize) -> Option<String> {
         .filter(|(_, line)| entry(line).is_some_and(|(other, _)| other == key));
     let (passed, _) = passed.last()?;
     Some(format!(
-        "the key {} stands in line {} of this group already; keep one of the two",
+        "the key {} stands in this group already, in line {}; keep one of the two",
         named(key),
         number - 1 - passed
     ))

@@ -5,24 +5,24 @@ use std::ffi::{OsStr, OsString};
 use std::ops::Range;
 use std::os::unix::ffi::{OsStrExt, OsStringExt};
 
-use kveldrim::Refusal;
+use kveldrim::{Refusal, DESKTOP_ENTRY};
 
 use crate::report::{shown, warn};
 
 /// The word that means the locales of the environment.
 const AUTO: &str = "auto";
 
+pub fn is_auto(locale: &OsStr) -> bool {
+    locale == AUTO
+}
+
 /// The locales that a `--locale` asks for, the first first. Those of the environment that are not of the form are passed over
 /// with a warning.
 pub fn asked(locale: &OsStr) -> Vec<Vec<u8>> {
-    match locale == AUTO {
+    match is_auto(locale) {
         true => of_environment(|name| env::var_os(name)),
         false => vec![locale.as_bytes().to_vec()],
     }
-}
-
-pub fn is_auto(locale: &OsStr) -> bool {
-    locale == AUTO
 }
 
 /// The locales of the first variable that is set and not empty. LANGUAGE has a list, parted by colons.
@@ -52,46 +52,38 @@ fn of_environment(variable: impl Fn(&str) -> Option<OsString>) -> Vec<Vec<u8>> {
 }
 
 /// Whether a word is of the form of a locale, as the core sees it.
-pub fn is_locale(word: &[u8]) -> bool {
-    kveldrim::choose(
-        b"[Desktop Entry]\nA=\n",
-        kveldrim::DESKTOP_ENTRY,
-        b"A",
-        word,
-    )
-    .is_ok()
+fn is_locale(word: &[u8]) -> bool {
+    kveldrim::choose(b"[Desktop Entry]\nA=\n", DESKTOP_ENTRY, b"A", word).is_ok()
 }
 
-/// Where the value of a key stands that the first of the locales takes which has one of its own; else that of the plain key.
+/// The first of the locales by which another value than that of the plain key is chosen, or which means the plain key.
+fn first<'a>(file: &[u8], group: &[u8], key: &[u8], locales: &'a [Vec<u8>]) -> Option<&'a Vec<u8>> {
+    let chosen = |locale: &[u8]| kveldrim::choose_ends(file, group, key, locale);
+    let plain = chosen(b"");
+    locales
+        .iter()
+        .find(|locale| chosen(locale) != plain || is_plain(locale))
+}
+
+/// Where the value of a key stands that the locales take, each in turn before the plain key.
 pub fn choose(
     file: &[u8],
     group: &[u8],
     key: &[u8],
     locales: &[Vec<u8>],
 ) -> Result<Range<usize>, Refusal> {
-    let plain = kveldrim::choose_ends(file, group, key, b"")?;
-    for locale in locales {
-        let chosen = kveldrim::choose_ends(file, group, key, locale)?;
-        if chosen != plain || is_plain(locale) {
-            return Ok(chosen);
-        }
-    }
-    Ok(plain)
+    let locale = first(file, group, key, locales);
+    kveldrim::choose_ends(file, group, key, locale.map_or(b"", |locale| locale))
 }
 
 /// The one of the locales that an expansion takes: the first that has a Name of its own, else the first of all.
 pub fn of_name(file: &[u8], locales: &[Vec<u8>]) -> Vec<u8> {
-    let name =
-        |locale: &[u8]| kveldrim::choose_ends(file, kveldrim::DESKTOP_ENTRY, b"Name", locale);
-    let plain = name(b"");
-    let own = locales
-        .iter()
-        .find(|locale| name(locale) != plain || is_plain(locale));
+    let own = first(file, DESKTOP_ENTRY, b"Name", locales);
     own.or(locales.first()).cloned().unwrap_or_default()
 }
 
 /// Whether a locale means the plain key.
-pub fn is_plain(locale: &[u8]) -> bool {
+fn is_plain(locale: &[u8]) -> bool {
     let mut parts = locale.splitn(2, |byte| *byte == b'.');
     let name = parts.next().unwrap_or_default();
     let rest = parts.next().unwrap_or_default();

@@ -34,7 +34,7 @@ fn check_tells_file_and_line() {
             "empty: the file is empty",
             "first:2: the first header must be [Desktop Entry]",
             "group:3: the group a starts in line 2",
-            "key:3: the key a stands in line 2",
+            "key:3: the key a stands in this group already, in line 2",
             "plain:2: a[de] needs the key a",
             "long: the file is over 32,768 bytes",
         ],

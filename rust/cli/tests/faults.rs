@@ -104,7 +104,7 @@ fn all_faults_are_told_in_the_order_of_lines() {
         &format!("f:1:16: {CRLF}"),
         "f:3: k[de] needs",
         "f:4:5: after the key Name",
-        "f:6: the key k2 stands in line 5",
+        "f:6: the key k2 stands in this group already, in line 5",
         "f:8: the group a starts in line 7",
     ];
     folder

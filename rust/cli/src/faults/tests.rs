@@ -267,7 +267,7 @@ fn faults_of_lines_that_are_good() {
     told(
         b"[Desktop Entry]\nA=1\n[g]\n#A=0\nA = 1\n\nA[de]=2\nA=3\n",
         Some(8),
-        "the key A stands in line 5 of this group already; keep one of the two",
+        "the key A stands in this group already, in line 5; keep one of the two",
     );
     told(
         b"[Desktop Entry]\nA=1\n[g]\nB=\n#\nA[de] =2\nA[fr]=2\n",

@@ -270,7 +270,7 @@ fn words_name_the_lines_of_the_file() {
         ),
         (
             9,
-            "the key l stands in line 7 of this group already; keep one of the two",
+            "the key l stands in this group already, in line 7; keep one of the two",
         ),
         (
             10,
@@ -282,7 +282,7 @@ fn words_name_the_lines_of_the_file() {
         ),
         (
             14,
-            "the key l stands in line 12 of this group already; keep one of the two",
+            "the key l stands in this group already, in line 12; keep one of the two",
         ),
     ];
     assert_eq!(told, expected);
