@@ -161,11 +161,9 @@ fn what_is_older_than_its_sources_is_built() {
         let checkout = Checkout::new();
         checkout.is_of("rust/target/release/kveldrim", 60);
         checkout.is_of("target/staticlib/libkveldrim.a", 60);
+        checkout.run(&[b"a b"]).writes(b"[a b]");
         checkout.is_of(source, 0);
-        // A path that `cd` would tell of changes nothing.
-        let mut command = checkout.command();
-        command.env("CDPATH", ".");
-        let outcome = checkout.0.run_by(command, &[b"a b"]);
+        let outcome = checkout.run(&[b"a b"]);
         assert_eq!(outcome.out.escape_ascii().to_string(), "new[a b]");
         assert_eq!(outcome.status, 0);
         let told = String::from_utf8(outcome.told).unwrap();
@@ -187,6 +185,24 @@ fn what_is_older_than_its_sources_is_built() {
         checkout.run(&[b"x"]).writes(b"new[x]");
         assert_eq!(checkout.called(), called);
     }
+}
+
+/// Where CDPATH is set, `cd` writes the folder that it finds.
+#[test]
+fn by_a_relative_path_with_cdpath() {
+    let checkout = Checkout::new();
+    symlink(".", checkout.path("again")).unwrap();
+    checkout.is_of("rust/target/release/kveldrim", 60);
+    checkout.is_of("rust/cli/src/main.rs", 0);
+    let mut command = Command::new("sh");
+    command
+        .args(["-c", "exec again/kveldrim \"$@\"", "sh"])
+        .env_clear()
+        .env("PATH", checkout.path("bin"))
+        .env("CDPATH", ".");
+    let outcome = checkout.0.run_by(command, &[b"a b"]);
+    assert_eq!(outcome.out.escape_ascii().to_string(), "new[a b]");
+    assert_eq!(checkout.called(), "cargo\n");
 }
 
 #[test]
