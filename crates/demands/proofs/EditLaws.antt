@@ -1,12 +1,11 @@
 -- An accepted set or remove leaves a well-formed file, is read back, and changes what no other key reads. Assumes nothing.
 use mathlib.Core.Path.{_≡_, refl, sym, ap, _∙_}
-use Prim.Native.Nat.{ℕ, _+_, _-_}
-use mathlib.Core.Bool.{Bool, true, false, _&&_}
+use Prim.Native.Nat.{ℕ, _+_}
+use mathlib.Core.Bool.{true, false, _&&_}
 use mathlib.Core.Option.{Option, none, some, Option·map}
 use mathlib.Core.List.{List, []}
 use lib.ListN.{length, take}
 use lib.Dec.{leb}
-use Rattle.base.specs.Choice.{pick}
 use Rattle.base.specs.Lists.{part}
 use Rattle.base.specs.Over.{over}
 use Rattle.base.proofs.Tests.{no, and-both, by-test}
@@ -19,7 +18,7 @@ use Rattle.text.proofs.ReadBack.{read-back}
 use Rattle.line.specs.Form.{groupForm, keyForm}
 use Rattle.rows.specs.Rows.{Row, readRows, rawValue}
 use Rattle.rows.specs.Title.{desktopEntry, Title, Key, sameTitle, findRow}
-use Rattle.rows.proofs.Titles.{same-key}
+use Rattle.rows.proofs.Titles.{nameless}
 use Rattle.rows.proofs.Sight.{linesOf}
 use Rattle.wellformed.specs.Check.{fileMost, check}
 use Rattle.wellformed.specs.WellFormed.{wellFormed, CheckAccepts}
@@ -29,12 +28,13 @@ use Rattle.entry.proofs.Lookups.{row-stands}
 use Rattle.splice.specs.Edit.{Edit, spliced, bufferWith}
 use Rattle.splice.proofs.Splits.{buffer-content}
 use Rattle.change.specs.Change.{Request, Set, Remove, editOf}
-use Rattle.change.proofs.LineValues.{valueIn, value-file}
+use Rattle.change.proofs.LineValues.{valueIn, AlikeBut, value-file}
 use Rattle.change.proofs.Accepted.{set-of, remove-of, edit-undone}
 use Rattle.change.proofs.Kept.{After, after-set, after-remove}
 use Rattle.journal.specs.Journal.{Journal, editRecord, editLength, readJournal}
 use Rattle.edit.specs.Calls.{State, content, lengthsFit, opened, fileFits, recordFits, request}
-use Rattle.demands.specs.Edits.{handed, EditKeepsWellFormed, OthersReadAsBefore, SetIsReadBack, RemovedIsMissing, TurnedRound}
+use Rattle.demands.specs.Files.{handed}
+use Rattle.demands.specs.Edits.{askedEntry, EditKeepsWellFormed, OthersReadAsBefore, SetIsReadBack, RemovedIsMissing, TurnedRound}
 use Rattle.demands.proofs.FileLaws.{checks, lookup-is}
 
 -- ---- what an accepted call says
@@ -54,7 +54,7 @@ requested s f e =
     }
 
 -- the file was well formed, the edit is the request's, and what is left is the file after it
-record Done (s t : State) (q : Request) : Type 0 where
+pub record Done (s t : State) (q : Request) : Type 0 where
   pub edit : Edit
   pub edits : editOf (content s) q ≡ given edit
   pub well : wellFormed (content s) ≡ true
@@ -69,7 +69,7 @@ opened-well s j e =
     let b = bind-given (check (content s)) (λ _. journal) j (a .1) in
     sym (check-accepts desktopEntry (content s)) ∙ ap accepted (b .1)
 
-done : (s t : State) (q : Request) → request s q ≡ given t → Done s t q
+pub done : (s t : State) (q : Request) → request s q ≡ given t → Done s t q
 unfolding request
 done s t q h =
     let f : List ℕ = content s in
@@ -106,74 +106,73 @@ lookup-formless : (f group key : List ℕ) → wellFormed f ≡ true → (groupF
 unfolding lookup
 lookup-formless f group key h k = rw (checks f h, k)
 
+-- what lookup of another entry hands back in files that are alike but for one
+lookup-alike : (t : Title) (f h group key : List ℕ) → wellFormed f ≡ true → wellFormed h ≡ true → AlikeBut t (linesOf f) (linesOf h)
+    → sameTitle (Key group key) t ≡ false → handed f group key ≡ handed h group key
+lookup-alike t f h group key u w a n =
+    by-test (groupForm group && keyForm key)
+    (λ c.
+    lookup-reads f group key u c
+    ∙ ap (λ (o : Option (List ℕ)). some-or o Missing) (a (sameTitle (Key group key)) (nameless (Key group key)) n)
+    ∙ sym (lookup-reads h group key w c))
+    (λ c. lookup-formless f group key u c ∙ sym (lookup-formless h group key w c))
+
 -- ---- after an edit
 
-some-pick : (u : Bool) (v o : Option (List ℕ)) → some-or (pick u v o) Missing ≡ pick u (some-or v Missing) (some-or o Missing)
-some-pick true v o = refl
-some-pick false v o = refl
+-- the value that the entry of a request then has
+abbrev newValue : Request → Option (List ℕ)
+newValue (Set group key text) = some (rawText text)
+newValue (Remove group key) = none
 
-module _ (f : List ℕ) (e : Edit) (t : Title) (v : Option (List ℕ)) (a : After desktopEntry e f t v) (h : wellFormed f ≡ true) (m : leb (length (spliced e f)) fileMost ≡ true) where
-  after-reads : (g k : List ℕ) → (groupForm g && keyForm k) ≡ true → handed (spliced e f) g k ≡ pick (sameTitle (Key g k) t) (some-or v Missing) (handed f g k)
-  after-reads g k c =
-      lookup-reads (spliced e f) g k (a .well m) c
-      ∙ ap (λ (o : Option (List ℕ)). some-or o Missing) (a .reads (Key g k))
-      ∙ some-pick (sameTitle (Key g k) t) v (valueIn (Key g k) [] (linesOf f))
-      ∙ ap (pick (sameTitle (Key g k) t) (some-or v Missing)) (sym (lookup-reads f g k h c))
-
-  after-others : (g k : List ℕ) → sameTitle (Key g k) t ≡ false → handed (spliced e f) g k ≡ handed f g k
-  after-others g k n =
-      by-test (groupForm g && keyForm k)
-      (λ c. after-reads g k c ∙ rw n)
-      (λ c. lookup-formless (spliced e f) g k (a .well m) c ∙ sym (lookup-formless f g k h c))
-
--- what an accepted request leaves, with the value that its entry then has
-record Leaves (s t : State) (group key : List ℕ) (v : Option (List ℕ)) : Type 0 where
-  pub form : (groupForm group && keyForm key) ≡ true
+-- what an accepted request leaves
+pub record Leaves (s t : State) (q : Request) : Type 0 where
+  pub well-before : wellFormed (content s) ≡ true
   pub well : wellFormed (content t) ≡ true
-  pub own : handed (content t) group key ≡ some-or v Missing
-  pub others : (g k : List ℕ) → sameTitle (Key g k) (Key group key) ≡ false → handed (content t) g k ≡ handed (content s) g k
+  pub own : valueIn (askedEntry q) [] (linesOf (content t)) ≡ newValue q
+  pub others : AlikeBut (askedEntry q) (linesOf (content t)) (linesOf (content s))
 
-leaves : (s t : State) (q : Request) (group key : List ℕ) (v : Option (List ℕ)) (d : Done s t q) → (groupForm group && keyForm key) ≡ true
-    → After desktopEntry (d .edit) (content s) (Key group key) v → Leaves s t group key v
-leaves s t q group key v d c a =
-    record {
-      form = c;
-      well = rw (d .left) (a .well (d .most));
-      own = rw (d .left) (after-reads (content s) (d .edit) (Key group key) v a (d .well) (d .most) group key c ∙ rw (same-key group key));
-      others = λ g k n. rw (d .left) (after-others (content s) (d .edit) (Key group key) v a (d .well) (d .most) g k n);
-    }
+pub leaves : (s t : State) (q : Request) → request s q ≡ given t → Leaves s t q
+leaves s t q h = let d = done s t q h in by d (after q (d .edit) (d .edits) (d .well))
+  where
+    after : (q : Request) (e : Edit) → editOf (content s) q ≡ given e → wellFormed (content s) ≡ true → After desktopEntry e (content s) (askedEntry q) (newValue q)
+    after (Set group key text) e i w = after-set desktopEntry (content s) group key text e w (set-of (content s) group key text e i)
+    after (Remove group key) e i w = after-remove desktopEntry (content s) group key e w (remove-of (content s) group key e i)
 
-leaves-set : (s t : State) (group key text : List ℕ) → request s (Set group key text) ≡ given t → Leaves s t group key (some (rawText text))
-leaves-set s t group key text h =
-    let d = done s t (Set group key text) h in
-    let o = set-of (content s) group key text (d .edit) (d .edits) in
-    leaves s t (Set group key text) group key (some (rawText text)) d (o .form) (after-set desktopEntry (content s) group key text (d .edit) (d .well) o)
-
-leaves-remove : (s t : State) (group key : List ℕ) → request s (Remove group key) ≡ given t → Leaves s t group key none
-leaves-remove s t group key h =
-    let d = done s t (Remove group key) h in
-    let o = remove-of (content s) group key (d .edit) (d .edits) in
-    leaves s t (Remove group key) group key none d (o .form) (after-remove desktopEntry (content s) group key (d .edit) (d .well) o)
+    by : (d : Done s t q) → After desktopEntry (d .edit) (content s) (askedEntry q) (newValue q) → Leaves s t q
+    by d a = record { well-before = d .well; well = rw (d .left) (a .well (d .most)); own = rw (d .left) (a .own); others = rw (d .left) (a .others) }
 
 -- ---- the laws
 
 pub edit-keeps-well-formed : EditKeepsWellFormed
 unfolding EditKeepsWellFormed
-edit-keeps-well-formed s t (Set group key text) h = leaves-set s t group key text h .well
-edit-keeps-well-formed s t (Remove group key) h = leaves-remove s t group key h .well
+edit-keeps-well-formed s t q h = leaves s t q h .well
 
 pub others-read-as-before : OthersReadAsBefore
 unfolding OthersReadAsBefore
-others-read-as-before s t (Set group key text) g k h n = leaves-set s t group key text h .others g k n
-others-read-as-before s t (Remove group key) g k h n = leaves-remove s t group key h .others g k n
+others-read-as-before s t q group key h n =
+    let l = leaves s t q h in
+    lookup-alike (askedEntry q) (content t) (content s) group key (l .well) (l .well-before) (l .others) n
+
+-- what lookup of its own entry hands back
+own-reads : (s t : State) (q : Request) (group key : List ℕ) → askedEntry q ≡ Key group key → (groupForm group && keyForm key) ≡ true → request s q ≡ given t
+    → handed (content t) group key ≡ some-or (newValue q) Missing
+own-reads s t q group key i c h =
+    let l = leaves s t q h in
+    lookup-reads (content t) group key (l .well) c ∙ ap (λ (o : Option (List ℕ)). some-or o Missing) (rw i at (l .own))
 
 pub set-is-read-back : SetIsReadBack
 unfolding SetIsReadBack
-set-is-read-back s t group key text h = rw (leaves-set s t group key text h .own) (read-back text)
+set-is-read-back s t group key text h =
+    let d = done s t (Set group key text) h in
+    let c = set-of (content s) group key text (d .edit) (d .edits) .form in
+    rw (own-reads s t (Set group key text) group key refl c h) (read-back text)
 
 pub removed-is-missing : RemovedIsMissing
 unfolding RemovedIsMissing
-removed-is-missing s t group key h = by (lookup (content t) group key) (leaves-remove s t group key h .own)
+removed-is-missing s t group key h =
+    let d = done s t (Remove group key) h in
+    let c = remove-of (content s) group key (d .edit) (d .edits) .form in
+    by (lookup (content t) group key) (own-reads s t (Remove group key) group key refl c h)
   where
     by : (a : Answer Extent) → then (λ e. part (e .from) (e .to) (content t)) a ≡ refused Missing → a ≡ refused Missing
     by (given e) i = no (cc)

@@ -119,6 +119,18 @@ lookup-misses file group key w f =
     let i = lookup-is file group key w f in
     (λ e. rw i (present o e), λ e. i ∙ missing o .1 e)
 
+-- an entry that lookup finds is there
+pub lookup-has : (file group key : List ℕ) → accepted (lookup file group key) ≡ true → has (readRows file) (Key group key) ≡ true
+unfolding lookup
+lookup-has file group key e = by (check file) (groupForm group && keyForm key) (findRow (readRows file) (Key group key)) e
+  where
+    by : (a : Answer (Unit {0})) (t : Bool) (o : Option Row) → accepted (a >>= λ _. (need t BadArgument >>= λ _. (some-or o Missing >>= λ r. given (valueEnds r)))) ≡ true
+        → there o ≡ true
+    by (refused f) t o e = absurd (false≢true e)
+    by (given tt) false o e = absurd (false≢true e)
+    by (given tt) true none e = absurd (false≢true e)
+    by (given tt) true (some r) e = refl
+
 -- where the plain key is absent, so is each candidate
 none-there : (file group key : List ℕ) (ls : List (List ℕ)) → wellFormed file ≡ true → plainForm key ≡ true → has (readRows file) (Key group key) ≡ false
     → any (λ l. has (readRows file) (Key group (postfixed key l))) ls ≡ false

@@ -1,6 +1,7 @@
 pub mod ReadBackLaws
 pub mod FileLaws
 pub mod EditLaws
+pub mod MergeLaws
 pub mod BookLaws
 pub mod Agreement
 pub mod ContractLaws

@@ -4,9 +4,8 @@ use mathlib.Core.Path.{_≡_}
 use Prim.Native.Nat.{ℕ}
 use mathlib.Core.Bool.{true, false}
 use mathlib.Core.List.{List}
-use Rattle.base.specs.Lists.{part}
 use Rattle.fault.specs.declared.Fault.the-variants.{Missing}
-use Rattle.fault.specs.Answer.{Answer, given, refused, _>>=_, then}
+use Rattle.fault.specs.Answer.{given, refused, _>>=_}
 use Rattle.text.specs.Escape.{readText}
 use Rattle.rows.specs.Title.{Title, Key, sameTitle}
 use Rattle.wellformed.specs.WellFormed.{wellFormed}
@@ -14,10 +13,7 @@ use Rattle.entry.specs.Lookup.{lookup}
 use Rattle.splice.specs.Edit.{Edit, spliced, turned}
 use Rattle.change.specs.Change.{Request, Set, Remove, editOf}
 use Rattle.edit.specs.Calls.{State, content, request}
-
--- what lookup hands back: a part of the file, or its refusal
-abbrev pub handed : List ℕ → List ℕ → List ℕ → Answer (List ℕ)
-handed file group key = then (λ e. part (e .from) (e .to) file) (lookup file group key)
+use Rattle.demands.specs.Files.{handed}
 
 -- the entry that a request is about: its group and its key with the whole postfix
 abbrev pub askedEntry : Request → Title

@@ -1,6 +1,7 @@
 pub mod ReadBack
 pub mod Files
 pub mod Edits
+pub mod Merge
 pub mod Book
 pub mod Demand3
 pub mod Contracts

@@ -5,20 +5,16 @@ use mathlib.Core.Bool.{true}
 use mathlib.Core.List.{List, []}
 use lib.Dec.{eqb}
 use Rattle.base.specs.Choice.{pick}
-use Rattle.base.specs.Lists.{ascii, part}
+use Rattle.base.specs.Lists.{ascii}
 use Rattle.fault.specs.Table.{numberOf}
-use Rattle.fault.specs.Answer.{Answer, given, refused, _>>=_, then}
+use Rattle.fault.specs.Answer.{Answer, given, refused, _>>=_}
 use Rattle.text.specs.Escape.{readText}
 use Rattle.line.specs.Form.{groupForm, localeForm}
 use Rattle.rows.specs.Rows.{readRows}
 use Rattle.rows.specs.Title.{desktopEntry}
 use Rattle.wellformed.specs.Check.{check}
-use Rattle.entry.specs.Choose.{choose}
 use Rattle.exec.specs.Expand.{nameText, iconText}
-
--- what choice hands back: a part of the file, or its refusal
-abbrev pub chosenPart : List ℕ → List ℕ → List ℕ → List ℕ → Answer (List ℕ)
-chosenPart file group key locale = then (λ e. part (e .from) (e .to) file) (choose file group key locale)
+use Rattle.demands.specs.Files.{chosenPart}
 
 -- no bytes where the refusal is 8, and every other answer as it is
 abbrev pub orNone : Answer (List ℕ) → Answer (List ℕ)

@@ -3,7 +3,7 @@ mod report; // report.rt: the words of the report
 mod files; // files.rt: the check and completeness
 mod values; // values.rt: lookup and the choice of language
 mod texts; // texts.rt: text and value lists
-mod edits; // edits.rt: set, with room in the journal and without
+mod edits; // edits.rt: set, with room in the journal and without; two in either order
 mod commands; // commands.rt: the expansion of Exec
 
 fn main() {
@@ -22,6 +22,7 @@ fn main() {
     texts::texts_written();
     texts::lists_read();
     edits::sets(t);
+    edits::orders(t);
     commands::expansions(t);
     commands::commands_read();
 }

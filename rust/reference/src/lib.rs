@@ -18,6 +18,6 @@ pub use book::Book;
 pub use exec::{expand, runs};
 pub use file::{check, complete, lookup};
 pub use journal::{redo, remove, set, undo, State};
-pub use locale::choose;
+pub use locale::{candidates, choose};
 pub use refusal::Refusal;
 pub use text::{read_list, read_text, write_text};

@@ -106,27 +106,44 @@ fn reads_list(raw: &[u8], room: usize) -> String {
     writes("read_list", read_list, digits, raw, room)
 }
 
-/// Name of T set to `Les`, with a journal of so many bytes; both buffers hold dots first.
-fn sets_name(room: usize) -> String {
+/// Entries of T set in turn, up to the first refusal, with a file's and a journal's buffer of so many bytes; both hold dots first.
+fn sets(entries: &[(&str, &str)], file_room: usize, journal_room: usize) -> String {
     let mut file = T.to_vec();
-    file.resize(72, b'.');
+    file.resize(file_room, b'.');
     let mut state = State {
         file,
         file_len: T.len() as u64,
-        journal: vec![b'.'; room],
+        journal: vec![b'.'; journal_room],
         used: 0,
         standing: 0,
     };
-    let answer = set(&mut state, b"Desktop Entry", b"Name", b"Les");
+    let mut set_one = |(key, text): &(&str, &str)| {
+        set(
+            &mut state,
+            b"Desktop Entry",
+            key.as_bytes(),
+            text.as_bytes(),
+        )
+    };
+    let answer = entries.iter().try_for_each(&mut set_one);
     let numbers = format!(
         "{} bytes, used {}, standing {}",
         state.file_len, state.used, state.standing
     );
     let answer = told(answer, |()| numbers.clone());
     let (file, journal) = (quote(&state.file), digits(&state.journal));
-    format!(
-        r#"set "Name" of T to "Les" with a journal of {room} bytes: {answer}, {file}, {journal}"#
-    )
+    format!("{answer}, {file}, {journal}")
+}
+
+fn sets_name(room: usize) -> String {
+    let told = sets(&[("Name", "Les")], 72, room);
+    format!(r#"set "Name" of T to "Les" with a journal of {room} bytes: {told}"#)
+}
+
+fn sets_both(first: (&str, &str), next: (&str, &str)) -> String {
+    let told = sets(&[first, next], 84, 52);
+    let ((key, text), (next, next_text)) = (first, next);
+    format!(r#"set "{key}" of T to "{text}", then "{next}" to "{next_text}": {told}"#)
 }
 
 /// A run of a file's Exec for a locale at a location, with a list of files, into so many bytes.
@@ -149,7 +166,15 @@ fn expands(
 }
 
 fn edits() -> Vec<String> {
-    [27, 26, 25].map(sets_name).into()
+    let (name, exec) = (("Name", "Les"), ("Exec", "v"));
+    let (icon, url) = (("Icon", "a"), ("URL", "b"));
+    let orders = [
+        sets_both(name, exec),
+        sets_both(exec, name),
+        sets_both(icon, url),
+        sets_both(url, icon),
+    ];
+    [&[27, 26, 25].map(sets_name)[..], &orders].concat()
 }
 
 fn commands() -> Vec<String> {
