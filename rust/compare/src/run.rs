@@ -15,18 +15,38 @@ pub type Outcomes<'a> = &'a [(&'static str, &'a [u32])];
 /// how many calls were made.
 pub fn run(test: &str, cases: u64, outcomes: Outcomes, make: impl Fn(&mut Random) -> Case) -> u64 {
     let mut asker = Asker::new(0);
+    let are_all = each(test, cases, |seed| {
+        let case = make(&mut Random::new(seed));
+        asker.start(seed);
+        if let Err(difference) = case.compare(&mut asker) {
+            let seed_words = format!("{test}, seed {seed}");
+            panic!("{seed_words}: {}", smallest(seed, case, difference));
+        }
+    });
+    if are_all {
+        println!("{test}: {cases} inputs, {}", words(&asker.tally));
+        came_up(test, &asker.tally, outcomes);
+    }
+    calls(&asker.tally)
+}
+
+/// Runs so many cases, each from a seed of its own, or the one alone that the environment names. Answers whether they were all.
+pub fn each(test: &str, cases: u64, mut case: impl FnMut(u64)) -> bool {
+    let mut one = |seed| {
+        let _told_on_panic = Seed(test, seed);
+        if env::var_os("KVELDRIM_TRACE").is_some() {
+            eprintln!("{test}: seed {seed}");
+        }
+        case(seed);
+    };
     if let Some(seed) = number("KVELDRIM_REPLAY") {
-        one(test, seed, &make, &mut asker);
-        return calls(&asker.tally);
+        one(seed);
+        return false;
     }
     let base = number("KVELDRIM_SEED").unwrap_or(1);
     let family = test.bytes().fold(base, |sum, byte| mix(sum, byte.into()));
-    for case in 0..cases {
-        one(test, mix(family, case), &make, &mut asker);
-    }
-    println!("{test}: {cases} inputs, {}", words(&asker.tally));
-    came_up(test, &asker.tally, outcomes);
-    calls(&asker.tally)
+    (0..cases).for_each(|case| one(mix(family, case)));
+    true
 }
 
 /// Asks that each of these outcomes, at least one, came up: so no test can grow empty unseen.
@@ -72,19 +92,6 @@ impl Drop for Seed<'_> {
             let Seed(test, seed) = self;
             eprintln!("replay: KVELDRIM_REPLAY={seed} cargo --config debian.toml test --offline -p kveldrim-compare {test}");
         }
-    }
-}
-
-fn one(test: &str, seed: u64, make: impl Fn(&mut Random) -> Case, asker: &mut Asker) {
-    let _told_on_panic = Seed(test, seed);
-    if env::var_os("KVELDRIM_TRACE").is_some() {
-        eprintln!("{test}: seed {seed}");
-    }
-    let case = make(&mut Random::new(seed));
-    asker.start(seed);
-    if let Err(difference) = case.compare(asker) {
-        let seed_words = format!("{test}, seed {seed}");
-        panic!("{seed_words}: {}", smallest(seed, case, difference));
     }
 }
 
