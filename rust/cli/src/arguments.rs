@@ -6,7 +6,7 @@ use std::time::Duration;
 use clap::{Args, Parser, Subcommand};
 use clap_complete::Shell;
 
-/// Checks .desktop files, reads and edits their values and expands their commands
+/// Checks .desktop files, reads, edits and merges them, and expands their commands
 #[derive(Parser)]
 #[command(name = "kveldrim", version, after_help = AFTER_HELP)]
 pub struct Line {
@@ -20,7 +20,7 @@ only read. Faults are told as FILE:LINE:BYTE: what is wrong, as far as line and 
 terminal the line follows, with a caret under the byte.
 
 Exit status: 0 all is well; 1 a file, a question or an edit was refused; 2 bad usage, or a file that cannot be read or \
-written; 75 another kveldrim edits the file just now, so try again.";
+written; 75 another kveldrim edits the file just now, so try again. Of merge 1 means conflicts, and a file that is refused is 2.";
 
 #[derive(Subcommand)]
 pub enum Command {
@@ -42,6 +42,8 @@ pub enum Command {
     Redo(Step),
     /// Tells the edits that stand, and those that wait for redo
     Log(Log),
+    /// Makes one file of two changed copies of it
+    Merge(Merge),
     /// Writes a file's command, with the files to open put in; starts nothing
     Expand(Expand),
     /// Writes a script that completes these commands in a shell
@@ -153,12 +155,18 @@ pub struct Change {
 /// How an edit is made.
 #[derive(Args)]
 pub struct Manner {
-    /// Waits up to so many seconds for another kveldrim that edits the file
-    #[arg(long, value_name = "SECONDS", default_value = "0", hide_default_value = true, value_parser = seconds)]
-    pub wait: Duration,
+    #[command(flatten)]
+    pub wait: Wait,
     /// Tells what would change, and changes nothing; whether you may write is not asked
     #[arg(long)]
     pub dry_run: bool,
+}
+
+#[derive(Args)]
+pub struct Wait {
+    /// Waits up to so many seconds for another kveldrim that edits the file
+    #[arg(long, value_name = "SECONDS", default_value = "0", hide_default_value = true, value_parser = seconds)]
+    pub wait: Duration,
 }
 
 fn seconds(word: &str) -> Result<Duration, String> {
@@ -202,6 +210,39 @@ pub struct Log {
     pub file: OsString,
     #[command(flatten)]
     pub json: Json,
+}
+
+#[derive(Args)]
+#[command(after_help = "\
+What only one copy changed is as that copy has it: values by their keys, comments, blank lines and groups by their places. \
+What both changed in different ways is a conflict: each is told as FILE:LINE: conflict: .., and nothing is written. One of the \
+three may be -, standard input. `> MINE` would empty MINE before it is read, so write `--output MINE`. README.md tells how \
+git merges by this command.
+
+Exit status: 0 merged; 1 conflicts; 2 bad usage, a file that is not well formed, or one that cannot be read or written; 75 \
+another kveldrim edits FILE just now, so try again.")]
+pub struct Merge {
+    /// The file as it was before both changes
+    pub base: OsString,
+    /// A changed copy; where the order is free, its lines come first
+    pub mine: OsString,
+    /// The other changed copy
+    pub theirs: OsString,
+    /// Writes FILE, all of it or nothing, in place of standard output; it may be one of the three
+    #[arg(long, short, value_name = "FILE")]
+    pub output: Option<OsString>,
+    /// Tells of a file under NAME in place of its own name; up to three times, for BASE, MINE and THEIRS
+    #[arg(long, short = 'L', value_name = "NAME")]
+    pub label: Vec<OsString>,
+    /// Puts the journal of FILE aside under another name: its edits are not those of the merged file
+    #[arg(long, requires = "output")]
+    pub discard_journal: bool,
+    /// Warns of nothing: neither of a merged file that is not complete, nor of an Exec that cannot be expanded, where both
+    /// copies were and could
+    #[arg(long)]
+    pub no_warn: bool,
+    #[command(flatten)]
+    pub wait: Wait,
 }
 
 #[derive(Args)]

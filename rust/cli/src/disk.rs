@@ -8,7 +8,8 @@ use std::thread;
 use std::time::{Duration, Instant};
 
 use nix::unistd::geteuid;
-use rustix::fs::{flock, FlockOperation, OFlags};
+use rustix::fs::{flock, renameat_with, FlockOperation, OFlags, RenameFlags};
+use rustix::io::Errno;
 
 use crate::attributes::Attributes;
 use crate::names::Names;
@@ -151,9 +152,10 @@ pub struct Replacement<'a> {
     /// The bytes that the file has, and those that it is to have.
     pub old: &'a [u8],
     pub new: &'a [u8],
-    /// A journal that belongs to both, and one that belongs to the new bytes alone.
-    pub journal: &'a [u8],
-    pub settled: &'a [u8],
+    /// A journal that belongs to both, if there is to be one meanwhile, and one that belongs to the new bytes alone, if there is
+    /// to be one at the end.
+    pub journal: Option<&'a [u8]>,
+    pub settled: Option<&'a [u8]>,
     /// The journal that is there, and whether it is to be kept under another name.
     pub old_journal: Option<&'a [u8]>,
     pub aside: bool,
@@ -171,30 +173,61 @@ pub fn replace(names: &Names, open: &File, with: &Replacement) -> io::Result<()>
     let aside = with.old_journal.filter(|_| with.aside);
     let aside = aside.map(|bytes| put_aside(names, bytes, &like));
     let aside = aside.transpose()?;
-    let new = Written::new(names.new_file(), with.new, &like)?;
-    let put_journal = |bytes: &[u8]| {
-        let journal = Written::new(names.new_journal(), bytes, &like)?;
-        journal.rename(names, names.journal())
+    let new = Written::new(names.new_file(), with.new, Some(&like))?;
+    let put_journal = |bytes: Option<&[u8]>| match bytes {
+        Some(bytes) => {
+            let journal = Written::new(names.new_journal(), bytes, Some(&like))?;
+            journal.rename(names, names.journal()).map(drop)
+        }
+        None => {
+            fs::remove_file(names.journal())?;
+            step();
+            Ok(())
+        }
     };
-    put_journal(with.journal)?;
+    if with.journal.is_some() {
+        put_journal(with.journal)?;
+    }
     let unchanged = unchanged(names, open, with.old);
     let _locked = match unchanged.and_then(|()| new.rename(names, names.file.clone())) {
         Ok(new) => new,
         Err(error) => {
             // Where this fails, the journal with both pairs serves the old bytes as well.
-            let _ = match with.old_journal {
-                Some(bytes) => put_journal(bytes).map(drop),
-                None => fs::remove_file(names.journal()),
-            };
+            if with.journal.is_some() {
+                let _ = put_journal(with.old_journal);
+            }
             return Err(error);
         }
     };
     // The edit is done. Where this fails, the journal with both pairs serves the new bytes as well.
-    let _ = put_journal(with.settled);
+    if with.journal.is_some() {
+        let _ = put_journal(with.settled);
+    }
     if let Some(aside) = aside {
         aside.keep();
     }
     Ok(())
+}
+
+/// Makes a file that is not there yet, with all its bytes at once and the rights that new files have. Something that has got its
+/// name meanwhile stays, and is an Err.
+pub fn create(names: &Names, bytes: &[u8]) -> io::Result<()> {
+    let new = Written::new(names.new_file(), bytes, None)?;
+    new.rename_by(names, names.file.clone(), rename_to_free)?;
+    Ok(())
+}
+
+/// Renames a file to a name that nothing has. Both paths are absolute.
+fn rename_to_free(from: &Path, to: &Path) -> io::Result<()> {
+    let folder = File::open("/")?;
+    match renameat_with(&folder, from, &folder, to, RenameFlags::NOREPLACE) {
+        // A file system that cannot do so has hard links.
+        Err(Errno::INVAL | Errno::NOSYS) => {
+            fs::hard_link(from, to)?;
+            fs::remove_file(from)
+        }
+        renamed => Ok(renamed?),
+    }
 }
 
 /// Whether the file is still the one that is locked, with these bytes: the last question before they are replaced.
@@ -209,7 +242,7 @@ fn unchanged(names: &Names, mut open: &File, bytes: &[u8]) -> io::Result<()> {
 /// A copy of an old journal under the first free name.
 fn put_aside(names: &Names, bytes: &[u8], like: &Attributes) -> io::Result<Written> {
     for number in 1.. {
-        match Written::free(names.aside(number), bytes, like) {
+        match Written::free(names.aside(number), bytes, Some(like)) {
             Err(error) if error.kind() == ErrorKind::AlreadyExists => {}
             written => return written,
         }
@@ -225,16 +258,19 @@ struct Written {
 
 impl Written {
     /// Bytes under a name that may be left over from a run that was killed.
-    fn new(path: PathBuf, bytes: &[u8], like: &Attributes) -> io::Result<Written> {
+    fn new(path: PathBuf, bytes: &[u8], like: Option<&Attributes>) -> io::Result<Written> {
         remove_left_over(&path)?;
         step();
         Written::free(path, bytes, like)
     }
 
-    /// Bytes under a free name, with the access and the attributes of the file.
-    fn free(path: PathBuf, bytes: &[u8], like: &Attributes) -> io::Result<Written> {
+    /// Bytes under a free name, with the access and the attributes of the file, or with those that every new file has.
+    fn free(path: PathBuf, bytes: &[u8], like: Option<&Attributes>) -> io::Result<Written> {
         let mut options = OpenOptions::new();
-        options.read(true).write(true).create_new(true).mode(0o600);
+        options.read(true).write(true).create_new(true);
+        if like.is_some() {
+            options.mode(0o600);
+        }
         let open = options.open(&path);
         let open = open.map_err(|error| denied(error, "you may not write in its folder"))?;
         let mut written = Written {
@@ -245,7 +281,9 @@ impl Written {
         step();
         written.open.write_all(bytes)?;
         step();
-        like.give(&written.open)?;
+        if let Some(like) = like {
+            like.give(&written.open)?;
+        }
         step();
         written.open.sync_all()?;
         step();
@@ -257,12 +295,21 @@ impl Written {
     }
 
     /// A rename that is on disk before the next one starts, as far as the file system can do so. Answers the locked file.
-    fn rename(mut self, names: &Names, to: PathBuf) -> io::Result<Written> {
+    fn rename(self, names: &Names, to: PathBuf) -> io::Result<Written> {
+        self.rename_by(names, to, |from, to| fs::rename(from, to))
+    }
+
+    fn rename_by(
+        mut self,
+        names: &Names,
+        to: PathBuf,
+        rename: impl Fn(&Path, &Path) -> io::Result<()>,
+    ) -> io::Result<Written> {
         if let Some(path) = &self.path {
             if !is_at(&self.open, path)? {
                 return Err(ErrorKind::WouldBlock.into());
             }
-            fs::rename(path, to)?;
+            rename(path, &to)?;
             self.path = None;
         }
         step();
@@ -298,6 +345,8 @@ fn remove_left_over(path: &Path) -> io::Result<()> {
 
 #[cfg(test)]
 mod tests {
+    use std::os::unix::fs::symlink;
+
     use super::*;
     use crate::kills::Place;
 
@@ -324,5 +373,20 @@ mod tests {
                 scope.spawn(move || (0..1_000).for_each(|_| replace(&place.0.join(editor))));
             }
         });
+    }
+
+    /// What has got the name of a new file meanwhile stays, a link to nothing too.
+    #[test]
+    fn a_new_file_replaces_nothing() {
+        let place = Place::new(b"old");
+        let link = place.0.join("link");
+        symlink("none", &link).unwrap();
+        for path in [place.file(), link] {
+            let names = Names::of_new(path.as_os_str()).unwrap();
+            let error = create(&names, b"new").unwrap_err();
+            assert_eq!(error.kind(), ErrorKind::AlreadyExists);
+        }
+        assert_eq!(fs::read(place.file()).unwrap(), b"old");
+        assert_eq!(fs::read_dir(&place.0).unwrap().count(), 2);
     }
 }

@@ -141,7 +141,7 @@ fn make(
     named(file)?;
     let store = match manner.dry_run {
         true => Store::look(file, discard)?,
-        false => Store::edit(file, discard, manner.wait)?,
+        false => Store::edit(file, discard, manner.wait.wait)?,
     };
     let mut document = store.document();
     let before = document.file().to_vec();
@@ -178,25 +178,28 @@ fn named(file: &OsStr) -> Result<(), Trouble> {
 impl Made {
     /// Warns of what an accepted edit leaves behind that its user will hardly want.
     fn warn(&self, file: &OsStr, group: &[u8], key: &[u8]) {
-        let Made { before, after } = self;
-        if kveldrim::complete(before).is_ok() {
-            if let Err(refusal) = kveldrim::complete(after) {
-                Trouble::of_file(file, after, refusal)
-                    .warning("with this edit the file is no longer complete")
-                    .tell();
-            }
-        }
-        if expand::trouble_of(file, before).is_none() {
-            if let Some(trouble) = expand::trouble_of(file, after) {
-                trouble
-                    .warning("with this edit Exec can no longer be expanded")
-                    .tell();
-            }
-        }
-        if kveldrim::lookup(after, group, key).is_ok() && is_unread(key) {
+        warn_of_loss("edit", file, &[&self.before], &self.after);
+        if kveldrim::lookup(&self.after, group, key).is_ok() && is_unread(key) {
             Trouble::unread(file, key).tell();
         }
     }
+}
+
+/// Warns of a file that is not complete, or whose Exec cannot be expanded, where all that it was made of were and could.
+pub fn warn_of_loss(act: &str, file: &OsStr, before: &[&[u8]], after: &[u8]) {
+    let incomplete = |bytes: &[u8]| {
+        let refusal = kveldrim::complete(bytes).err()?;
+        Some(Trouble::of_file(file, bytes, refusal))
+    };
+    let unexpanded = |bytes: &[u8]| expand::trouble_of(file, bytes);
+    let warn = |ask: &dyn Fn(&[u8]) -> Option<Trouble>, loss: &str| {
+        let was_well = before.iter().all(|bytes| ask(bytes).is_none());
+        if let Some(trouble) = ask(after).filter(|_| was_well) {
+            trouble.warning(&format!("with this {act} {loss}")).tell();
+        }
+    };
+    warn(&incomplete, "the file is no longer complete");
+    warn(&unexpanded, "Exec can no longer be expanded");
 }
 
 /// Whether a key has a postfix that no `get --locale` chooses.

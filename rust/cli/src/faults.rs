@@ -242,12 +242,12 @@ fn line_of<'a>(lines: &[&'a [u8]], number: usize) -> Option<&'a [u8]> {
 }
 
 /// The name of a good header's line.
-fn header(line: &[u8]) -> Option<&[u8]> {
+pub fn header(line: &[u8]) -> Option<&[u8]> {
     line.strip_prefix(b"[")?.strip_suffix(b"]")
 }
 
 /// The key, with its postfix, and the raw value of a good entry's line; none for other good lines.
-fn entry(line: &[u8]) -> Option<(&[u8], &[u8])> {
+pub fn entry(line: &[u8]) -> Option<(&[u8], &[u8])> {
     if matches!(line.first()?, b' ' | b'\t' | b'#' | b'[') {
         return None;
     }
@@ -258,7 +258,7 @@ fn entry(line: &[u8]) -> Option<(&[u8], &[u8])> {
 }
 
 /// A key without its postfix; none if it has no postfix.
-fn plain(key: &[u8]) -> Option<&[u8]> {
+pub fn plain(key: &[u8]) -> Option<&[u8]> {
     let bracket = key.iter().position(|byte| *byte == b'[')?;
     Some(&key[..bracket])
 }

@@ -102,10 +102,15 @@ impl Place {
         self.0.join("t")
     }
 
-    /// The command on the file, in a child.
+    /// The command on the file, in a child. A word `@NAME` is a file of the folder.
     fn command(&self, words: &[&str]) -> Command {
-        let file = self.file();
-        let words = [&[words[0], file.to_str().unwrap()], &words[1..]].concat();
+        let words = [&[words[0], "@t"], &words[1..]].concat();
+        let path = |name: &str| self.0.join(name).to_str().unwrap().to_string();
+        let words = words.iter().map(|word| match word.strip_prefix('@') {
+            Some(name) => path(name),
+            None => word.to_string(),
+        });
+        let words: Vec<String> = words.collect();
         let mut command = Command::new(env::current_exe().unwrap());
         command
             .args(["--exact", "kills::child", "--ignored", "--nocapture"])
@@ -147,10 +152,27 @@ fn found(file: &Path) -> Pair {
     }
 }
 
-/// The command killed at each step, from the same start: the next run finds the start or the end, whole.
-fn killed_at_each_step(setup: &[&[&str]], words: &[&str]) {
-    let file = b"[Desktop Entry]\nName=Lesen\nName[fr]=Lire\nExec=view";
-    let first = Place::new(file);
+/// The file `t`, and two changed copies of it.
+fn three_files() -> Folder {
+    let files = [
+        ("t", "[Desktop Entry]\nName=Lesen\nName[fr]=Lire\nExec=view"),
+        (
+            "mine",
+            "[Desktop Entry]\nName=Les\nName[fr]=Lire\nExec=view",
+        ),
+        (
+            "theirs",
+            "[Desktop Entry]\nName=Lesen\nName[fr]=Lisez\nExec=view",
+        ),
+    ];
+    files
+        .map(|(name, bytes)| (name.into(), bytes.into()))
+        .into()
+}
+
+/// The command killed at each of so many steps, from the same start: the next run finds the start or the end, whole.
+fn killed_at_each_step(setup: &[&[&str]], words: &[&str], least: u32) {
+    let first = Place::with(&three_files());
     for words in setup {
         assert!(first.run(words, None));
     }
@@ -186,9 +208,11 @@ fn killed_at_each_step(setup: &[&[&str]], words: &[&str]) {
         let aside = |name: &&OsString| name.to_string_lossy().ends_with("new");
         assert_eq!(place.content().keys().find(aside), None, "step {steps}");
     }
-    // Three files are written aside in eight steps each, and renamed in two.
-    assert!(steps >= 30, "{steps}");
+    assert!(steps >= least, "{steps}");
 }
+
+/// Three files are written aside in eight steps each, and renamed in two.
+const THREE_FILES: u32 = 30;
 
 /// Whether every journal's records of before are somewhere in the folder.
 fn keeps_journal(before: &Folder, now: &Folder) {
@@ -201,6 +225,10 @@ fn keeps_journal(before: &Folder, now: &Folder) {
     }
 }
 
+/// A merge into the file, and what comes of it.
+const MERGE: &[&str] = &["merge", "@mine", "@theirs", "--output", "@t"];
+const MERGED: &[u8] = b"[Desktop Entry]\nName=Les\nName[fr]=Lisez\nExec=view";
+
 const EDITS: &[&[&str]] = &[
     &["set", "Name", "Les"],
     &["remove", "Exec"],
@@ -212,50 +240,91 @@ const EDITS: &[&[&str]] = &[
 
 #[test]
 fn the_first_edit() {
-    killed_at_each_step(&[], &["set", "Name", "Les"]);
+    killed_at_each_step(&[], &["set", "Name", "Les"], THREE_FILES);
 }
 
 /// The records that wait are lost with this edit, so not before it is done.
 #[test]
 fn a_set_over_waiting_edits() {
-    killed_at_each_step(EDITS, &["set", "Name", "Lesestunde"]);
+    killed_at_each_step(EDITS, &["set", "Name", "Lesestunde"], THREE_FILES);
 }
 
 #[test]
 fn a_set_that_changes_no_byte_of_the_file() {
-    killed_at_each_step(EDITS, &["set", "Name", "Les"]);
+    killed_at_each_step(EDITS, &["set", "Name", "Les"], THREE_FILES);
 }
 
 #[test]
 fn a_remove() {
-    killed_at_each_step(EDITS, &["remove", "Name[fr]"]);
+    killed_at_each_step(EDITS, &["remove", "Name[fr]"], THREE_FILES);
 }
 
 #[test]
 fn an_undo() {
-    killed_at_each_step(EDITS, &["undo"]);
+    killed_at_each_step(EDITS, &["undo"], THREE_FILES);
 }
 
 #[test]
 fn a_redo() {
-    killed_at_each_step(EDITS, &["redo"]);
+    killed_at_each_step(EDITS, &["redo"], THREE_FILES);
 }
 
 #[test]
 fn a_new_journal() {
-    killed_at_each_step(EDITS, &["set", "Name", "x", "--discard-journal"]);
+    killed_at_each_step(
+        EDITS,
+        &["set", "Name", "x", "--discard-journal"],
+        THREE_FILES,
+    );
+}
+
+/// A merge into the file, without a journal: one file is written aside and renamed.
+#[test]
+fn a_merge() {
+    killed_at_each_step(&[], MERGE, 10);
+}
+
+/// A copy of the journal, the file and one journal more are written aside; at the end there is no journal.
+#[test]
+fn a_merge_that_discards_a_journal() {
+    let words = [MERGE, &["--discard-journal"]].concat();
+    killed_at_each_step(&[&["set", "Name[fr]", "Lire"]], &words, 28);
+}
+
+/// A new file is there with all its bytes or not at all, and the next run makes it.
+#[test]
+fn a_merge_into_a_new_file() {
+    let words = [&MERGE[..4], &["@new"]].concat();
+    for step in 1.. {
+        let place = Place::with(&three_files());
+        let done = place.run(&words, Some(step));
+        let new = place.content().remove(OsStr::new("new"));
+        assert!(new.is_none_or(|new| new == MERGED), "step {step}");
+        assert!(place.run(&words, None));
+        let content = place.content();
+        let names: Vec<&OsStr> = content.keys().map(OsString::as_os_str).collect();
+        assert_eq!(names, ["mine", "new", "t", "theirs"]);
+        assert_eq!(content[OsStr::new("new")], MERGED);
+        if done {
+            // One file is written aside in five steps and renamed in two.
+            assert_eq!(step, 8);
+            break;
+        }
+    }
 }
 
 /// Another program changes the file while an edit is under way, in one of two ways. Up to the last step before the file is
 /// replaced, its bytes stay and the edit is refused; the journal keeps all that it had.
-fn changed_at_each_step(how: &str, bytes: &[u8]) {
-    let first = Place::new(b"[Desktop Entry]\n");
-    assert!(first.run(&["set", "Name", "Les"], None));
+fn changed_at_each_step(setup: &[&[&str]], words: &[&str], how: &str, bytes: &[u8], steps: u32) {
+    let first = Place::with(&three_files());
+    for words in setup {
+        assert!(first.run(words, None));
+    }
     let start = first.content();
     let mut refused = 0;
     for step in 1.. {
         let place = Place::with(&start);
-        let mut command = place.command(&["set", "Name", "Lesung"]);
+        let mut command = place.command(words);
         let outcome = command
             .env(STEP, step.to_string())
             .env(how, place.file())
@@ -268,18 +337,31 @@ fn changed_at_each_step(how: &str, bytes: &[u8]) {
         assert_eq!(fs::read(place.file()).unwrap(), bytes);
         keeps_journal(&start, &place.content());
     }
-    // Two files are written aside and the journal is renamed.
-    assert_eq!(refused, 2 * 8 + 2);
+    assert_eq!(refused, steps);
 }
+
+/// Two files are written aside and the journal is renamed.
+const BEFORE_AN_EDIT: u32 = 2 * 8 + 2;
 
 #[test]
 fn a_change_during_an_edit() {
-    changed_at_each_step(CHANGE, OTHER);
+    let words = ["set", "Name", "Lesung"];
+    changed_at_each_step(&EDITS[..1], &words, CHANGE, OTHER, BEFORE_AN_EDIT);
 }
 
 #[test]
 fn a_replacement_during_an_edit() {
-    changed_at_each_step(REPLACE, b"[Desktop Entry]\nName=Les\n");
+    let words = ["set", "Name", "Lesung"];
+    let edited = &three_files()[OsStr::new("mine")];
+    changed_at_each_step(&EDITS[..1], &words, REPLACE, edited, BEFORE_AN_EDIT);
+}
+
+/// The file that is to be replaced is BASE too: what is merged is what was locked.
+#[test]
+fn a_change_during_a_merge() {
+    let base = &three_files()[OsStr::new("t")];
+    changed_at_each_step(&[], MERGE, CHANGE, OTHER, 8);
+    changed_at_each_step(&[], MERGE, REPLACE, base, 8);
 }
 
 /// Whatever the folder would give to new files, and at whatever step a run is killed: nobody but who edits has a right to a

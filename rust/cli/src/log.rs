@@ -91,8 +91,13 @@ impl Told {
                 (parts(line).0, Some(old), Some(new))
             }
         };
+        Told::new(group_at(&file[..place]), key, old, new)
+    }
+
+    /// What becomes of the entry of a key.
+    pub fn new(group: &[u8], key: &[u8], old: Option<&[u8]>, new: Option<&[u8]>) -> Told {
         Told {
-            group: group_at(&file[..place]).to_vec(),
+            group: group.to_vec(),
             key: key.to_vec(),
             old: old.map(<[u8]>::to_vec),
             new: new.map(<[u8]>::to_vec),
@@ -111,26 +116,34 @@ impl Told {
             (None, Some(new)) => format!("{} {added}", quoted(new)),
             (None, None) => String::new(),
         };
+        self.with(&change)
+    }
+
+    /// Words about the entry, after its key and group.
+    pub fn with(&self, words: &str) -> Vec<u8> {
         [
             &self.key,
             &b" in "[..],
             &self.group,
             b": ",
-            change.as_bytes(),
+            words.as_bytes(),
         ]
         .concat()
     }
 }
 
-/// The text of a raw value in quotes, in which a quote, a backslash, LF, tab, CR and what alters a terminal are escaped. A value
-/// whose escapes cannot be read is marked as raw.
-fn quoted(raw: &[u8]) -> String {
-    let (mark, text) = match kveldrim::read_text_vec(raw) {
-        Ok(text) => ("", text),
-        Err(_) => ("raw ", raw.to_vec()),
-    };
-    let mut words = format!("{mark}\"");
-    for character in String::from_utf8_lossy(&text).chars() {
+/// The text of a raw value in quotes. A value whose escapes cannot be read is marked as raw.
+pub fn quoted(raw: &[u8]) -> String {
+    match kveldrim::read_text_vec(raw) {
+        Ok(text) => in_quotes(&text),
+        Err(_) => format!("raw {}", in_quotes(raw)),
+    }
+}
+
+/// Text in quotes, in which a quote, a backslash, LF, tab, CR and what alters a terminal are escaped.
+pub fn in_quotes(text: &[u8]) -> String {
+    let mut words = String::from("\"");
+    for character in String::from_utf8_lossy(text).chars() {
         match character {
             '"' | '\\' => words.extend(['\\', character]),
             '\n' => words.push_str("\\n"),

@@ -1,5 +1,5 @@
-//! The command `kveldrim`: checks .desktop files, reads and edits their values and expands their commands, with the proved
-//! core behind it.
+//! The command `kveldrim`: checks .desktop files, reads, edits and merges them, and expands their commands, with the proved core
+//! behind it.
 
 #![forbid(unsafe_code)]
 
@@ -18,6 +18,7 @@ mod json;
 mod kills;
 mod locale;
 mod log;
+mod merge;
 mod names;
 mod report;
 mod store;
@@ -58,6 +59,7 @@ fn run(words: impl Iterator<Item = OsString>) -> ExitCode {
         Command::Undo(step) => editing::undo(step),
         Command::Redo(step) => editing::redo(step),
         Command::Log(log) => editing::log(log),
+        Command::Merge(merge) => merge::merge(merge),
         Command::Expand(expand) => expand::expand(expand),
         Command::Completions { shell } => {
             let mut script = Vec::new();

@@ -38,6 +38,22 @@ impl Names {
         }
     }
 
+    /// A file that is not there yet, in a folder that is.
+    pub fn of_new(file: &OsStr) -> io::Result<Names> {
+        let path = Path::new(file);
+        let name = path
+            .file_name()
+            .filter(|_| !file.as_bytes().ends_with(b"/"));
+        let name = name.ok_or_else(|| not_plain("it"))?;
+        let folder = path.parent().filter(|folder| *folder != Path::new(""));
+        let folder = fs::canonicalize(folder.unwrap_or(Path::new(".")))?;
+        Ok(Names {
+            file: folder.join(name),
+            folder,
+            name: name.into(),
+        })
+    }
+
     fn beside(&self, end: &str) -> PathBuf {
         self.folder.join(own(&self.name, end))
     }

@@ -121,6 +121,12 @@ impl Trouble {
         )
     }
 
+    /// A new file cannot be made.
+    pub fn uncreatable(file: &OsStr, error: &io::Error) -> Trouble {
+        let words = format!("cannot be created: {}", plain(error));
+        Trouble::new(file, words, UNUSABLE)
+    }
+
     pub fn unwritable(error: &io::Error) -> Trouble {
         let words = format!("the answer cannot be written: {}", plain(error));
         Trouble::new(OsStr::new("kveldrim"), words, UNUSABLE)
@@ -176,6 +182,39 @@ impl Trouble {
 
     pub fn refused(file: &OsStr, words: &str) -> Trouble {
         Trouble::new(file, words, REFUSED)
+    }
+
+    /// Two copies of a file do not agree; at a line of one of them.
+    pub fn conflict(file: &OsStr, line: usize, words: &[u8]) -> Trouble {
+        Trouble {
+            line: Some(line),
+            ..Trouble::new(file, [b"conflict: ", words].concat(), REFUSED)
+        }
+    }
+
+    /// There is no merged file, which would have this name.
+    pub fn unmerged(file: &OsStr, words: &str) -> Trouble {
+        Trouble::new(file, format!("{words}; nothing was written"), UNUSABLE)
+    }
+
+    /// A journal is there whose edits a merged file would not have.
+    pub fn in_the_way(file: &OsStr, journal: &OsStr, words: &str) -> Trouble {
+        let words = [
+            &b"its journal "[..],
+            &shown(journal),
+            b" ",
+            words.as_bytes(),
+        ];
+        Trouble::new(file, words.concat(), UNUSABLE)
+    }
+
+    /// The same for a command whose status 1 means something else.
+    pub fn unusable(self) -> Trouble {
+        let status = match self.status {
+            REFUSED => UNUSABLE,
+            status => status,
+        };
+        Trouble { status, ..self }
     }
 
     /// A refusal of the file itself.
@@ -331,8 +370,7 @@ const UNFIT: &str =
     "this text cannot be set: it must be UTF-8, without control bytes other than tab, LF and CR";
 
 /// What can be done about a journal.
-const DISCARD: &str =
-    " (set and remove with --discard-journal put the journal aside and start a new one)";
+const DISCARD: &str = " (set, remove and merge put the journal aside with --discard-journal)";
 
 fn no_key(group: &[u8], key: &[u8]) -> Vec<u8> {
     [

@@ -1,12 +1,12 @@
 //! A file with its journal, taken from disk and put back together.
 
 use std::ffi::{OsStr, OsString};
-use std::fs::File;
+use std::fs::{self, File};
 use std::io;
 use std::os::unix::fs::MetadataExt;
 use std::time::Duration;
 
-use kveldrim::{Document, FILE_BOUND};
+use kveldrim::{Document, Kind, FILE_BOUND};
 use nix::unistd::geteuid;
 
 use crate::disk::{self, Replacement};
@@ -125,11 +125,48 @@ impl Store {
             records: document.journal().to_vec(),
             standing: document.standing(),
         };
+        self.replace(&after, true, Some(&journal::write(&[&after])))
+    }
+
+    /// The bytes of the file, as they were read.
+    pub fn bytes(&self) -> &[u8] {
+        &self.before.file
+    }
+
+    /// Whether another name leads to the file.
+    pub fn is_named(&self, other: &OsStr) -> bool {
+        fs::canonicalize(other).is_ok_and(|path| path == self.names.file)
+    }
+
+    /// Puts other bytes on disk that no edit has made, and leaves no journal beside them. One with edits is in the way, unless
+    /// it is to be put aside.
+    pub fn overwrite(&self, bytes: &[u8]) -> Result<(), Trouble> {
+        // Of a longer file not all was read.
+        if self.before.file.len() > FILE_BOUND {
+            return Err(Trouble::refused(&self.given, Kind::TooLong.words()));
+        }
+        if !self.before.records.is_empty() {
+            let words = "has edits that would no longer belong to the file (--discard-journal puts it aside)";
+            let journal = self.names.journal_name();
+            return Err(Trouble::in_the_way(&self.given, &journal, words));
+        }
+        let after = Pair::new(bytes.to_vec());
+        self.replace(&after, self.journal.is_some(), None)
+    }
+
+    /// Puts a file on disk, and if it is to have a journal, one that belongs to both until the end.
+    fn replace(
+        &self,
+        after: &Pair,
+        has_journal: bool,
+        settled: Option<&[u8]>,
+    ) -> Result<(), Trouble> {
+        let journal = journal::write(&[after, &self.before]);
         let replacement = Replacement {
             old: &self.before.file,
             new: &after.file,
-            journal: &journal::write(&[&after, &self.before]),
-            settled: &journal::write(&[&after]),
+            journal: has_journal.then_some(&journal),
+            settled,
             old_journal: self.journal.as_deref(),
             aside: self.discard,
         };
@@ -138,10 +175,33 @@ impl Store {
     }
 }
 
+/// Makes a file that is not there yet. A journal of its name would not be of it, so there must be none.
+pub fn create(file: &OsStr, bytes: &[u8]) -> Result<(), Trouble> {
+    let names = Names::of_new(file).map_err(|error| uncreatable(file, &error))?;
+    if names.journal().symlink_metadata().is_ok() {
+        let words = "is of a file that is no longer there; move it away";
+        return Err(Trouble::in_the_way(file, &names.journal_name(), words));
+    }
+    disk::create(&names, bytes).map_err(|error| uncreatable(file, &error))
+}
+
 fn uneditable(file: &OsStr, error: &io::Error) -> Trouble {
+    unless_busy(Trouble::uneditable, file, error)
+}
+
+fn uncreatable(file: &OsStr, error: &io::Error) -> Trouble {
+    unless_busy(Trouble::uncreatable, file, error)
+}
+
+/// Another editor is at work, or else what is said of the error.
+fn unless_busy(
+    said: fn(&OsStr, &io::Error) -> Trouble,
+    file: &OsStr,
+    error: &io::Error,
+) -> Trouble {
     match disk::is_busy(error) {
         true => Trouble::busy(file),
-        false => Trouble::uneditable(file, error),
+        false => said(file, error),
     }
 }
 
@@ -183,8 +243,8 @@ fn belonging(
 #[cfg(test)]
 mod tests {
     use std::sync::atomic::{AtomicBool, Ordering};
+    use std::thread;
     use std::time::Instant;
-    use std::{fs, thread};
 
     use super::*;
     use crate::kills::Place;

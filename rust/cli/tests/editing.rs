@@ -192,7 +192,7 @@ fn a_full_journal() {
     folder.refuses(
         1,
         &words,
-        "t: its journal has no room for this edit (set and remove with",
+        "t: its journal has no room for this edit (set, remove and merge",
     );
     let full = folder.read(JOURNAL);
     folder.does(&["set", "t", "Name", &a, "--discard-journal"]);
@@ -209,7 +209,7 @@ fn a_change_by_another_program() {
     let other = [&folder.read("t")[..], b"# a note\n"].concat();
     let folder = folder.with(b"t", &other);
     let told = "t: another program has changed this file since its last edit, so its journal \
-        .t.kveldrim-journal no longer belongs to it (set and remove with --discard-journal put";
+        .t.kveldrim-journal no longer belongs to it (set, remove and merge put the journal aside";
     for words in COMMANDS {
         folder.refuses(1, words, told);
     }
@@ -236,7 +236,7 @@ fn a_change_by_another_program() {
     assert_eq!(folder.names(), aside);
 }
 
-const DAMAGED: &str = "t: its journal .t.kveldrim-journal is damaged (set and remove with";
+const DAMAGED: &str = "t: its journal .t.kveldrim-journal is damaged (set, remove and merge";
 
 #[test]
 fn a_damaged_journal() {

@@ -7,8 +7,8 @@ use std::process::{Command, Stdio};
 
 use common::{Folder, T};
 
-const COMMANDS: [&str; 10] = [
-    "check", "complete", "get", "list", "set", "remove", "undo", "redo", "log", "expand",
+const COMMANDS: [&str; 11] = [
+    "check", "complete", "get", "list", "set", "remove", "undo", "redo", "log", "merge", "expand",
 ];
 
 fn run(words: &[&str]) -> (i32, String, String) {
@@ -114,6 +114,13 @@ fn bad_usage_is_2() {
         &[b"undo", b"t", b"t"],
         &[b"redo", b"t", b"--group", b"x"],
         &[b"log", b"t", b"--discard-journal"],
+        &[b"merge", b"t", b"t"],
+        &[b"merge", b"t", b"t", b"t", b"t"],
+        &[b"merge", b"-", b"t", b"-"],
+        &[b"merge", b"t", b"t", b"t", b"--output"],
+        &[b"merge", b"t", b"t", b"t", b"--output", b"-"],
+        &[b"merge", b"t", b"t", b"t", b"--discard-journal"],
+        &[b"merge", b"t", b"t", b"t", b"--dry-run"],
         &[b"\xFF"],
     ];
     for words in wrong {
