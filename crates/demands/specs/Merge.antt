@@ -39,7 +39,7 @@ setsPresent file (Remove group key) = false
 abbrev pub meet : List Request → List Request → Bool
 meet ps qs = any (λ p. any (λ q. sameTitle (askedEntry p) (askedEntry q)) qs) ps
 
--- the same of two lists of sets that do not meet: two people's
+-- the same of two lists of sets, as two people make them, of which no entry is in both
 unfoldable pub SetListsCommute : Type 0
 SetListsCommute = (s s₁ s₂ r r₂ r₁ : State) (ps qs : List Request) → content s ≡ content r
     → all (setsPresent (content s)) ps ≡ true
