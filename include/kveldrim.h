@@ -58,7 +58,7 @@
  *                               a list item or location that no argument can hold                  0                  0
  *     11  KVELDRIM_NO_ROOM      the output is too small; the edited file is over its room or
  *                               32,768 bytes                                                       0                  0
- *     12  KVELDRIM_NOTHING      nothing to undo or redo                                            0                  0
+ *     12  KVELDRIM_NOTHING      nothing to undo or redo; no such record                            0                  0
  *     13  KVELDRIM_JOURNAL_FULL the bytes standing and the new record are over the journal's room
  *                               or 65,536 bytes                                                    0                  0
  *     14  KVELDRIM_DAMAGED      a length is over its room, used over 65,536 or standing over used;
@@ -95,9 +95,14 @@
  * file's bytes, the journal's used bytes and *standing together: an undo is refused (14) if the file does not hold what the
  * record says, but a file that was changed elsewhere in between is not noticed.
  *
- * A record is 18 bytes and the edit's old and new bytes, all numbers little-endian: the length of the whole record (4
- * bytes), the kind 1 (2 bytes), the place in the file, the old length and the new length (4 bytes each), the old bytes, the
- * new bytes.
+ * A record is 20 bytes and the edit's old and new bytes, all numbers little-endian: the length of the whole record (4
+ * bytes), the kind 4 (2 bytes), the person who made the edit (2 bytes), the place in the file, the old length and the new
+ * length (4 bytes each), the old bytes, the new bytes. The numbers of persons are the caller's; 0 is nobody named. Where
+ * person 7 sets Name from Lesen, at place 38, to Les, the record is
+ * 1C 00 00 00 04 00 07 00 26 00 00 00 05 00 00 00 03 00 00 00 4C 65 73 65 6E 4C 65 73.
+ *
+ * Interface 1 and those before wrote records of the kind 1, without the 2 bytes of the person. They are still read, with the
+ * person 0, and a journal may have records of both kinds. None is rewritten; every new record has the kind 4.
  *
  *  - A set of a key that is there replaces the bytes of its value: the old value and the new one are recorded.
  *  - A set of a key that is not there puts in Key=value and LF behind the group's last entry, or behind its header if it has
@@ -115,10 +120,18 @@
  *     static uint8_t file[KVELDRIM_FILE_BOUND + 1], journal[KVELDRIM_JOURNAL_BOUND];
  *     uint64_t file_len = fread(file, 1, sizeof file, stdin), used = 0, standing = 0, place, byte;
  *     uint32_t refused = kveldrim_set(file, sizeof file, &file_len, journal, sizeof journal, &used, &standing,
- *                                     (const uint8_t *) "Desktop Entry", 13, (const uint8_t *) "Name", 4,
+ *                                     7, (const uint8_t *) "Desktop Entry", 13, (const uint8_t *) "Name", 4,
  *                                     (const uint8_t *) "Read", 4, &place, &byte);
  *     if (refused == 0)
  *         refused = kveldrim_undo(file, sizeof file, &file_len, journal, sizeof journal, &used, &standing, &place, &byte);
+ *
+ * Example: who made each edit
+ *
+ * The journal and its numbers are those of the example before.
+ *
+ *     uint16_t person;
+ *     for (uint64_t n = 0; kveldrim_person(journal, sizeof journal, used, standing, n, &place, &person) == 0; n++)
+ *         printf("edit %llu: person %u\n", (unsigned long long) n, (unsigned) person);
  *
  * Forms
  *
@@ -137,7 +150,7 @@ extern "C" {
 #endif
 
 /* The number of this interface: raised whenever a signature changes. kveldrim_abi tells that of the library. */
-#define KVELDRIM_ABI 1
+#define KVELDRIM_ABI 2
 
 /* The most bytes that a file may have. */
 #define KVELDRIM_FILE_BOUND 32768
@@ -149,8 +162,8 @@ extern "C" {
 /* The most bytes of a journal that may be used. */
 #define KVELDRIM_JOURNAL_BOUND 65536
 
-/* The bytes of a journal's record before its old and new bytes. */
-#define KVELDRIM_RECORD_HEAD 18
+/* The bytes of a new record of a journal before its old and new bytes. */
+#define KVELDRIM_RECORD_HEAD 20
 
 /* The refusals; the table above says when each is given. */
 #define KVELDRIM_TOO_LONG 1
@@ -280,6 +293,7 @@ uint32_t kveldrim_read_list(const uint8_t *raw, size_t raw_len,
  * edit like another.
  *
  *     file .. standing   the two buffers and their numbers, as said above under Edits
+ *     person             who makes the edit
  *     group, group_len   the group's name, without brackets
  *     key, key_len       the key, with its postfix if it has one: Name or Name[de]
  *     text, text_len     the text, not escaped
@@ -288,6 +302,7 @@ uint32_t kveldrim_read_list(const uint8_t *raw, size_t raw_len,
  */
 uint32_t kveldrim_set(uint8_t *file, size_t file_room, uint64_t *file_len,
                       uint8_t *journal, size_t journal_room, uint64_t *used, uint64_t *standing,
+                      uint16_t person,
                       const uint8_t *group, size_t group_len,
                       const uint8_t *key, size_t key_len,
                       const uint8_t *text, size_t text_len,
@@ -297,6 +312,7 @@ uint32_t kveldrim_set(uint8_t *file, size_t file_room, uint64_t *file_len,
  * Removes a key with its line.
  *
  *     file .. standing   the two buffers and their numbers, as said above under Edits
+ *     person             who makes the edit
  *     group, group_len   the group's name, without brackets
  *     key, key_len       the key, with its postfix if it has one
  *
@@ -304,6 +320,7 @@ uint32_t kveldrim_set(uint8_t *file, size_t file_room, uint64_t *file_len,
  */
 uint32_t kveldrim_remove(uint8_t *file, size_t file_room, uint64_t *file_len,
                          uint8_t *journal, size_t journal_room, uint64_t *used, uint64_t *standing,
+                         uint16_t person,
                          const uint8_t *group, size_t group_len,
                          const uint8_t *key, size_t key_len,
                          uint64_t *place, uint64_t *byte);
@@ -330,6 +347,19 @@ uint32_t kveldrim_undo(uint8_t *file, size_t file_room, uint64_t *file_len,
 uint32_t kveldrim_redo(uint8_t *file, size_t file_room, uint64_t *file_len,
                        uint8_t *journal, size_t journal_room, uint64_t *used, uint64_t *standing,
                        uint64_t *place, uint64_t *byte);
+
+/*
+ * Tells the person of a journal's record.
+ *
+ *     journal .. standing   the journal's buffer and its two numbers, as said above under Edits
+ *     n                     the record's number, from 0; the records that wait count too
+ *     person                who made the edit
+ *
+ * Refusals: 14, 12.
+ */
+uint32_t kveldrim_person(const uint8_t *journal, size_t journal_room, uint64_t used, uint64_t standing,
+                         uint64_t n,
+                         uint64_t *place, uint16_t *person);
 
 /*
  * Expands Exec of the group Desktop Entry into the arguments of one run. Nothing is started. The first argument is the

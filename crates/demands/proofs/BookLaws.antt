@@ -15,6 +15,7 @@ use Rattle.rows.specs.Title.{Key, title, findRow, has}
 use Rattle.wellformed.specs.Check.{plainOf}
 use Rattle.splice.specs.Edit.{spliced}
 use Rattle.change.specs.Change.{Request, Set, Remove, isPlain, ofGroup, postfixOf, setEdit, removeEdit, editOf}
+use Rattle.journal.specs.Journal.{Authored, by}
 use Rattle.edit.specs.Calls.{fileFits, recordFits}
 use Rattle.demands.specs.Book.{Call, Do, Undo, Redo, Book, bookFile, bookStanding, bookRequest, bookUndo, bookRedo, bookCall, BookRefusesAtZero}
 
@@ -37,11 +38,11 @@ request-refusals P form text missing plain postfixes file (Remove group key) =
 abbrev AtZero : Fault → Type 0
 AtZero f = (placeOf f ≡ 0) × (byteOf f ≡ 0)
 
-undo-zero : (b : Book) (qs : List Request) → IfRefused AtZero (bookUndo b qs)
+undo-zero : (b : Book) (qs : List (Authored Request)) → IfRefused AtZero (bookUndo b qs)
 undo-zero b [] = (refl, refl)
 undo-zero b (q ∷ qs) = tt
 
-redo-zero : (b : Book) (qs : List Request) → IfRefused AtZero (bookRedo b qs)
+redo-zero : (b : Book) (qs : List (Authored Request)) → IfRefused AtZero (bookRedo b qs)
 redo-zero b [] = (refl, refl)
 redo-zero b (q ∷ qs) = tt
 
@@ -49,9 +50,9 @@ call-zero : (b : Book) (c : Call) → IfRefused AtZero (bookCall b c)
 unfolding bookRequest
 call-zero b (Do q) =
     let zero : (_≡_ {A = ℕ} 0 0) × (_≡_ {A = ℕ} 0 0) = (refl, refl) in
-    if-bind AtZero (editOf (bookFile b) q) _ (request-refusals AtZero zero zero zero zero zero (bookFile b) q)
+    if-bind AtZero (editOf (bookFile b) (q .what)) _ (request-refusals AtZero zero zero zero zero zero (bookFile b) (q .what))
     (λ e. if-need AtZero (fileFits (b .fileRoom) (spliced e (bookFile b))) NoRoom _ zero
-    (λ _. if-need AtZero (recordFits (b .journalRoom) (bookStanding b) e) JournalFull _ zero (λ _. tt)))
+    (λ _. if-need AtZero (recordFits (b .journalRoom) (bookStanding b) (by (q .author) e)) JournalFull _ zero (λ _. tt)))
 call-zero b Undo = undo-zero b (b .standing)
 call-zero b Redo = redo-zero b (b .waiting)
 

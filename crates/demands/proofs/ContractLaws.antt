@@ -1,22 +1,26 @@
 -- Calls that met their contracts tell what the definitions tell and leave what these leave, so demand 3 holds of them. Assumes nothing.
 use mathlib.Core.Path.{_≡_, refl, ap, _∙_}
 use Prim.Native.Nat.{ℕ}
-use mathlib.Core.List.{List}
-use Rattle.base.proofs.Tests.{no}
+use mathlib.Core.Bool.{true, false≢true}
+use mathlib.Core.List.{List, _++_}
+use lib.ListN.{length}
+use lib.Dec.{eqb}
+use Rattle.base.proofs.Tests.{no, all-weaker}
 use Rattle.fault.specs.declared.Fault.{Fault}
 use Rattle.fault.specs.declared.Fault.the-variants.{TooLong, BadLine, FirstGroup, RepeatedGroup, RepeatedKey, NoPlainKey, BadArgument, Missing, BadEscape, UnfitText, NoRoom, NothingLeft, JournalFull, Damaged, BadExec, BadCode, PostfixesRemain, Incomplete}
 use Rattle.fault.specs.Table.{numberOf, placeOf, byteOf}
 use Rattle.fault.specs.Answer.{Answer, given, refused}
+use Rattle.journal.specs.Journal.{Author, NoPerson, Person, by, kindOf}
 use Rattle.edit.specs.Calls.{State, content, atExit}
 use Rattle.edit.specs.Step as step
 use Rattle.edit.specs.Step.{Made, answered, Numbers}
 use Rattle.edit.specs.declared.Edited.{Edited}
 use Rattle.edit.specs.declared.Edited.the-variants as edited
 use Rattle.kveldrim.specs.Abi.{codeOf, placeIn, byteIn}
-use Rattle.demands.specs.Book.{Call}
-use Rattle.demands.specs.Demand3.{stateCall, Told, toldOf, told, toldOver, leftBy, Demand3}
+use Rattle.demands.specs.Book.{Call, Do, Undo, Redo, bookCall}
+use Rattle.demands.specs.Demand3.{stateCall, personFits, writesKind, Told, toldOf, told, toldOver, leftBy, startState, startBook}
 use Rattle.demands.specs.Contracts.{Chain, no-call, one-call, Demand3Of, toldBy, after, ByContract, made, toldIn, ByExport, called, Demand3OfContracts, Demand3OfExports}
-use Rattle.demands.proofs.Agreement.{demand3}
+use Rattle.demands.proofs.Agreement.{agrees, start-rep, as-in-the-book}
 
 -- ---- chains of calls that do as the definitions say
 
@@ -30,6 +34,16 @@ record Follows (s : State) (cs : List Call) (xs : List Told) (u : State) : Type 
   told-is : xs ≡ toldOver stateCall s cs
   left-is : u ≡ leftBy stateCall s cs
 
+-- 01's calls name nobody
+old-fits : (c : Call) → writesKind 1 c ≡ true → personFits c ≡ true
+old-fits (Do q) e = by-author (q .author) e
+  where
+    by-author : (a : Author) → eqb (kindOf a) 1 ≡ true → personFits (Do (by a (q .what))) ≡ true
+    by-author NoPerson e = refl
+    by-author (Person n) e = absurd (false≢true e)
+old-fits Undo e = refl
+old-fits Redo e = refl
+
 module _ (step : State → Call → Told → State → Type 0) (defined : (s : State) (c : Call) (x : Told) (t : State) → step s c x t → Defined s c x t) where
   follows : {s : State} {cs : List Call} {xs : List Told} {u : State} → Chain step s cs xs u → Follows s cs xs u
   unfolding toldOver leftBy
@@ -40,10 +54,10 @@ module _ (step : State → Call → Told → State → Type 0) (defined : (s : S
       record { told-is = rw (e .tells, ← (e .leaves), w .told-is); left-is = rw (← (e .leaves)) (w .left-is) }
 
   demand3-of : Demand3Of step
-  unfolding Demand3
-  demand3-of start rest journal calls tolds s h k =
+  demand3-of start rest journal olds calls tolds s h o p k =
       let w = follows k in
-      let d = demand3 start rest journal calls h in
+      let begun = agrees olds (startState start rest journal) (startBook start (length (start ++ rest)) (length journal)) (all-weaker (writesKind 1) personFits old-fits olds o) (start-rep start rest journal h) in
+      let d = as-in-the-book calls (leftBy stateCall (startState start rest journal) olds) (leftBy bookCall (startBook start (length (start ++ rest)) (length journal)) olds) p (begun .rep-after) in
       record { tells = w .told-is ∙ d .tells; file-is = ap content (w .left-is) ∙ d .file-is; standing-is = ap (λ (t : State). t .standing) (w .left-is) ∙ d .standing-is }
 
 -- ---- the functions of `edit`

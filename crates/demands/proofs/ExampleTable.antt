@@ -19,8 +19,9 @@ use Rattle.entry.specs.Lookup.{valueEnds, lookup}
 use Rattle.entry.specs.Choose.{choose}
 use Rattle.splice.specs.Edit.{spliced, bufferWith, replaced}
 use Rattle.change.specs.Change.{inserting, setEdit, editOf}
-use Rattle.journal.specs.Journal.{editRecord, readEdits, partedAt, readJournal}
-use Rattle.edit.specs.Calls.{lengthsFit, opened, request}
+use Rattle.journal.specs.Journal.{editBytes, editRecord, readEdits, partedAt, readJournal}
+use Rattle.journal.specs.Lent.{numbersFit}
+use Rattle.edit.specs.Calls.{lengthsFit, opened, applied, request}
 use Rattle.command.specs.Words.{quoteLength, wordLength, wordsAfter}
 use Rattle.command.specs.Codes.{reserved, unquotedByte, needsBackslash, quotedByte, standsIn, codePiece, codeIn}
 use Rattle.command.specs.Command.{pieceOf, widthOf, piecesAfter, formOf, argumentOf, pieceFault, piecesFault, quotedFault, wordFault, wordsFault, readCommand}
@@ -35,7 +36,7 @@ unfolding same span any all first last keyByte groupByte blankByte valueByte tex
     rows lineOf rowsFrom readRows title sameTitle findRow titleFault earliest plainOf noPlain titledAs plainAll checkAs
     stripped plainLocale candidates firstKey chosen valueEnds lookup choose
     littleEndian numberOf headBytes recordBytes listBytes listOf cutAfter ended rawValue spliced replaced bufferWith inserting setEdit editOf
-    editRecord readEdits partedAt readJournal lengthsFit opened request
+    editBytes editRecord readEdits partedAt readJournal numbersFit lengthsFit opened applied request
     joined bodiesOf readList quoteLength wordLength wordsAfter
     reserved unquotedByte needsBackslash quotedByte standsIn codePiece codeIn
     pieceOf widthOf piecesAfter formOf argumentOf pieceFault piecesFault quotedFault wordFault wordsFault readCommand

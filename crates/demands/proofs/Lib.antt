@@ -4,6 +4,7 @@ pub mod EditLaws
 pub mod MergeLaws
 pub mod BookLaws
 pub mod Agreement
+pub mod PersonLaws
 pub mod ContractLaws
 pub mod ExampleTable
 pub mod Expansions

@@ -24,6 +24,7 @@ use Rattle.entry.specs.Lookup.{lookup}
 use Rattle.entry.specs.Choose.{choose}
 use Rattle.entry.proofs.Lookups.{chosen-stands}
 use Rattle.change.specs.Change.{Request, Set, Remove}
+use Rattle.journal.specs.Journal.{Author, Authored, by}
 use Rattle.change.proofs.LineValues.{AlikeBut, value-file}
 use Rattle.change.proofs.Accepted.{set-of}
 use Rattle.change.proofs.Kept.{value-of}
@@ -31,9 +32,9 @@ use Rattle.change.proofs.Sets.{valued, valued-rows, valued-twice, set-rows}
 use Rattle.edit.specs.Calls.{State, content, request}
 use Rattle.demands.specs.Files.{handed, chosenPart}
 use Rattle.demands.specs.Edits.{askedEntry, OthersReadAsBefore, SetIsReadBack}
-use Rattle.demands.specs.Merge.{SetsCommute, requestAll, setsPresent, meet, SetListsCommute, ChoiceReadsAsBefore}
+use Rattle.demands.specs.Merge.{SetsCommute, requestAll, setsPresent, allSetPresent, meet, SetListsCommute, ChoiceReadsAsBefore}
 use Rattle.demands.proofs.FileLaws.{checks, choose-is, lookup-has}
-use Rattle.demands.proofs.EditLaws.{done, leaves, others-read-as-before, set-is-read-back}
+use Rattle.demands.proofs.EditLaws.{done, done-left, leaves, others-read-as-before, set-is-read-back}
 
 -- ---- the rows after sets of entries that are there
 
@@ -43,65 +44,72 @@ setRows (Set group key text) rs = valued (Key group key) (rawText text) [] rs
 setRows (Remove group key) rs = rs
 
 -- those that a list of sets leaves
-abbrev setsRows : List Request → List (List ℕ) → List (List ℕ)
+abbrev setsRows : List (Authored Request) → List (List ℕ) → List (List ℕ)
 setsRows [] rs = rs
-setsRows (q ∷ qs) rs = setsRows qs (setRows q rs)
+setsRows (q ∷ qs) rs = setsRows qs (setRows (q .what) rs)
 
 -- a set of a fit text
 abbrev isSet : Request → Bool
 isSet (Set group key text) = fitText text
 isSet (Remove group key) = false
 
+abbrev areSets : List (Authored Request) → Bool
+areSets qs = all (λ q. isSet (q .what)) qs
+
 accepted-then : {A B : Type 0} (f : A → B) (a : Answer A) → accepted (then f a) ≡ accepted a
 accepted-then f (given a) = refl
 accepted-then f (refused e) = refl
 
 -- an entry that was there is there after a set
-present-still : (s t : State) (group key text : List ℕ) → request s (Set group key text) ≡ given t
+present-still : (s t : State) (author : Author) (group key text : List ℕ) → request s (by author (Set group key text)) ≡ given t
     → (q : Request) → setsPresent (content s) q ≡ true → setsPresent (content t) q ≡ true
 unfolding SetIsReadBack OthersReadAsBefore
-present-still s t group key text h (Remove g k) e = e
-present-still s t group key text h (Set g k _) e =
+present-still s t author group key text h (Remove g k) e = e
+present-still s t author group key text h (Set g k _) e =
     by-test (sameTitle (Key g k) (Key group key))
     (λ i.
     let j : Key g k ≡ Key group key = sameTitle-true (Key g k) (Key group key) i in
-    let own = bind-given (handed (content t) group key) readText text (set-is-read-back s t group key text h) in
+    let own = bind-given (handed (content t) group key) readText text (set-is-read-back s t author group key text h) in
     let b : handed (content t) g k ≡ given (own .0) = ap₂ (handed (content t)) (cc) (cc) ∙ own .1 in
     sym (accepted-then _ (lookup (content t) g k)) ∙ ap accepted b)
     (λ n.
     sym (accepted-then _ (lookup (content t) g k))
-    ∙ ap accepted (others-read-as-before s t (Set group key text) g k h n)
+    ∙ ap accepted (others-read-as-before s t (by author (Set group key text)) g k h n)
     ∙ accepted-then _ (lookup (content s) g k)
     ∙ e)
 
 -- accepted sets in turn
-record InTurn (s t : State) (qs : List Request) : Type 0 where
-  are-sets : all isSet qs ≡ true
+record InTurn (s t : State) (qs : List (Authored Request)) : Type 0 where
+  are-sets : areSets qs ≡ true
   left : rows (content t) ≡ setsRows qs (rows (content s))
   still : (p : Request) → setsPresent (content s) p ≡ true → setsPresent (content t) p ≡ true
 
-one-set : (s t : State) (q : Request) → setsPresent (content s) q ≡ true → request s q ≡ given t → InTurn s t (q ∷ [])
+one-set : (s t : State) (author : Author) (q : Request) → setsPresent (content s) q ≡ true → request s (by author q) ≡ given t → InTurn s t (by author q ∷ [])
 unfolding all
-one-set s t (Remove group key) e h = absurd (false≢true e)
-one-set s t (Set group key text) e h =
-    let d = done s t (Set group key text) h in
+one-set s t author (Remove group key) e h = absurd (false≢true e)
+one-set s t author (Set group key text) e h =
+    let d = done s t (by author (Set group key text)) h in
     let o = set-of (content s) group key text (d .edit) (d .edits) in
     record {
       are-sets = rw (o .fit);
-      left = ap rows (d .left) ∙ set-rows desktopEntry (content s) group key text (d .edit) (d .well) (lookup-has (content s) group key e) o;
-      still = present-still s t group key text h;
+      left = ap rows (done-left d) ∙ set-rows desktopEntry (content s) group key text (d .edit) (d .well) (lookup-has (content s) group key e) o;
+      still = present-still s t author group key text h;
     }
 
-in-turn : (s t : State) (qs : List Request) → all (setsPresent (content s)) qs ≡ true → requestAll s qs ≡ given t → InTurn s t qs
+-- more of them are there where all that were are
+still-present : (f g : List ℕ) → ((p : Request) → setsPresent f p ≡ true → setsPresent g p ≡ true) → (qs : List (Authored Request)) → allSetPresent f qs ≡ true → allSetPresent g qs ≡ true
+still-present f g h qs e = all-weaker (λ q. setsPresent f (q .what)) (λ q. setsPresent g (q .what)) (λ q. h (q .what)) qs e
+
+in-turn : (s t : State) (qs : List (Authored Request)) → allSetPresent (content s) qs ≡ true → requestAll s qs ≡ given t → InTurn s t qs
 unfolding all
 in-turn s t [] e h = subst (λ (u : State). InTurn s u []) (given-is s t h) (record { are-sets = refl; left = refl; still = λ p x. x })
 in-turn s t (q ∷ qs) e h =
-    let b = and-both (setsPresent (content s) q) (all (setsPresent (content s)) qs) e in
+    let b = and-both (setsPresent (content s) (q .what)) (allSetPresent (content s) qs) e in
     let m = bind-given (request s q) (λ u. requestAll u qs) t h in
-    let o = one-set s (m .0) q (b .0) (m .1) in
-    let i = in-turn (m .0) t qs (all-weaker (setsPresent (content s)) (setsPresent (content (m .0))) (o .still) qs (b .1)) (m .2) in
+    let o = one-set s (m .0) (q .author) (q .what) (b .0) (m .1) in
+    let i = in-turn (m .0) t qs (still-present (content s) (content (m .0)) (o .still) qs (b .1)) (m .2) in
     record {
-      are-sets = rw (and-both (isSet q) true (o .are-sets) .0, i .are-sets);
+      are-sets = rw (and-both (isSet (q .what)) true (o .are-sets) .0, i .are-sets);
       left = i .left ∙ ap (setsRows qs) (o .left);
       still = λ p x. i .still p (o .still p x);
     }
@@ -118,35 +126,35 @@ set-set (Set g₁ k₁ t₁) (Set g₂ k₂ t₂) rs e f n a = valued-twice g₁
 set-set (Set g₁ k₁ t₁) (Remove g₂ k₂) rs e f n a = refl
 set-set (Remove g₁ k₁) q rs e f n a = refl
 
-set-sets : (p : Request) (qs : List Request) (rs : List (List ℕ)) → isSet p ≡ true → all isSet qs ≡ true
-    → any (λ q. sameTitle (askedEntry p) (askedEntry q)) qs ≡ false → IsRows rs → setRows p (setsRows qs rs) ≡ setsRows qs (setRows p rs)
+set-sets : (p : Request) (qs : List (Authored Request)) (rs : List (List ℕ)) → isSet p ≡ true → areSets qs ≡ true
+    → any (λ q. sameTitle (askedEntry p) (askedEntry (q .what))) qs ≡ false → IsRows rs → setRows p (setsRows qs rs) ≡ setsRows qs (setRows p rs)
 unfolding all any
 set-sets p [] rs e f n a = refl
 set-sets p (q ∷ qs) rs e f n a =
-    let b = and-both (isSet q) (all isSet qs) f in
-    let c = or-both (sameTitle (askedEntry p) (askedEntry q)) (any (λ q. sameTitle (askedEntry p) (askedEntry q)) qs) n in
-    set-sets p qs (setRows q rs) e (b .1) (c .1) (set-is-rows q rs (b .0) a) ∙ ap (setsRows qs) (set-set p q rs e (b .0) (c .0) a)
+    let b = and-both (isSet (q .what)) (areSets qs) f in
+    let c = or-both (sameTitle (askedEntry p) (askedEntry (q .what))) (any (λ q. sameTitle (askedEntry p) (askedEntry (q .what))) qs) n in
+    set-sets p qs (setRows (q .what) rs) e (b .1) (c .1) (set-is-rows (q .what) rs (b .0) a) ∙ ap (setsRows qs) (set-set p (q .what) rs e (b .0) (c .0) a)
 
-sets-sets : (ps qs : List Request) (rs : List (List ℕ)) → all isSet ps ≡ true → all isSet qs ≡ true → meet ps qs ≡ false → IsRows rs
+sets-sets : (ps qs : List (Authored Request)) (rs : List (List ℕ)) → areSets ps ≡ true → areSets qs ≡ true → meet ps qs ≡ false → IsRows rs
     → setsRows qs (setsRows ps rs) ≡ setsRows ps (setsRows qs rs)
 unfolding all any
 sets-sets [] qs rs e f n a = refl
 sets-sets (p ∷ ps) qs rs e f n a =
-    let b = and-both (isSet p) (all isSet ps) e in
-    let c = or-both (any (λ q. sameTitle (askedEntry p) (askedEntry q)) qs) (meet ps qs) n in
-    sets-sets ps qs (setRows p rs) (b .1) f (c .1) (set-is-rows p rs (b .0) a) ∙ ap (setsRows ps) (sym (set-sets p qs rs (b .0) f (c .0) a))
+    let b = and-both (isSet (p .what)) (areSets ps) e in
+    let c = or-both (any (λ q. sameTitle (askedEntry (p .what)) (askedEntry (q .what))) qs) (meet ps qs) n in
+    sets-sets ps qs (setRows (p .what) rs) (b .1) f (c .1) (set-is-rows (p .what) rs (b .0) a) ∙ ap (setsRows ps) (sym (set-sets (p .what) qs rs (b .0) f (c .0) a))
 
 -- the rows after two lists
-record Both (s t : State) (ps qs : List Request) : Type 0 where
-  first-sets : all isSet ps ≡ true
-  next-sets : all isSet qs ≡ true
+record Both (s t : State) (ps qs : List (Authored Request)) : Type 0 where
+  first-sets : areSets ps ≡ true
+  next-sets : areSets qs ≡ true
   left : rows (content t) ≡ setsRows qs (setsRows ps (rows (content s)))
 
-both : (s m t : State) (ps qs : List Request) → all (setsPresent (content s)) ps ≡ true → all (setsPresent (content s)) qs ≡ true
+both : (s m t : State) (ps qs : List (Authored Request)) → allSetPresent (content s) ps ≡ true → allSetPresent (content s) qs ≡ true
     → requestAll s ps ≡ given m → requestAll m qs ≡ given t → Both s t ps qs
 both s m t ps qs e f a b =
     let x = in-turn s m ps e a in
-    let y = in-turn m t qs (all-weaker (setsPresent (content s)) (setsPresent (content m)) (x .still) qs f) b in
+    let y = in-turn m t qs (still-present (content s) (content m) (x .still) qs f) b in
     record { first-sets = x .are-sets; next-sets = y .are-sets; left = y .left ∙ ap (setsRows qs) (x .left) }
 
 pub set-lists-commute : SetListsCommute
@@ -161,8 +169,8 @@ set-lists-commute s s₁ s₂ r r₂ r₁ ps qs i e f n a b c d =
 
 pub sets-commute : SetsCommute
 unfolding SetsCommute SetListsCommute all any
-sets-commute s s₁ s₂ r r₂ r₁ group₁ key₁ text₁ group₂ key₂ text₂ i there₁ there₂ apart a b c d =
-    set-lists-commute s s₁ s₂ r r₂ r₁ (Set group₁ key₁ text₁ ∷ []) (Set group₂ key₂ text₂ ∷ []) i (rw there₁) (rw there₂) (rw apart) (rw a) (rw b) (rw c) (rw d)
+sets-commute s s₁ s₂ r r₂ r₁ author₁ author₂ group₁ key₁ text₁ group₂ key₂ text₂ i there₁ there₂ apart a b c d =
+    set-lists-commute s s₁ s₂ r r₂ r₁ (by author₁ (Set group₁ key₁ text₁) ∷ []) (by author₂ (Set group₂ key₂ text₂) ∷ []) i (rw there₁) (rw there₂) (rw apart) (rw a) (rw b) (rw c) (rw d)
 
 -- ---- choice
 
@@ -187,11 +195,11 @@ choose-reads : (f group key locale : List ℕ) → wellFormed f ≡ true → (gr
 choose-reads f group key locale h c =
     ap (then (λ e. part (e .from) (e .to) f)) (choose-is f group key locale (checks f h) c)
     ∙ chosen-stands f group key locale
-    ∙ by (chosen (readRows f) group key locale)
+    ∙ by-row (chosen (readRows f) group key locale)
   where
-    by : (o : Option Row) → then rawValue (some-or o Missing) ≡ some-or (Option·map rawValue o) Missing
-    by none = refl
-    by (some r) = refl
+    by-row : (o : Option Row) → then rawValue (some-or o Missing) ≡ some-or (Option·map rawValue o) Missing
+    by-row none = refl
+    by-row (some r) = refl
 
 -- with arguments of another form it is refused
 choose-formless : (f group key locale : List ℕ) → wellFormed f ≡ true → (groupForm group && plainForm key && localeForm locale) ≡ false
@@ -206,6 +214,6 @@ choice-reads-as-before s t q group key locale h n =
     by-test (groupForm group && plainForm key && localeForm locale)
     (λ c.
     choose-reads (content t) group key locale (l .well) c
-    ∙ ap (λ (o : Option (List ℕ)). some-or o Missing) (keys-alike (askedEntry q) (content t) (content s) group (keysOf key locale) (l .others) n)
+    ∙ ap (λ (o : Option (List ℕ)). some-or o Missing) (keys-alike (askedEntry (q .what)) (content t) (content s) group (keysOf key locale) (l .others) n)
     ∙ sym (choose-reads (content s) group key locale (l .well-before) c))
     (λ c. choose-formless (content t) group key locale (l .well) c ∙ sym (choose-formless (content s) group key locale (l .well-before) c))

@@ -28,8 +28,8 @@ use Rattle.entry.specs.Lookup.{lookup}
 use Rattle.entry.specs.Choose.{choose}
 use Rattle.splice.specs.Edit.{Edit, spliced, turned, stands}
 use Rattle.change.specs.Change.{editOf}
-use Rattle.journal.specs.Journal.{editLength, readJournal, nextOf}
-use Rattle.edit.specs.Calls.{State, content, lengthsFit, fileFits, recordFits, opened, request, replayed, undo, redo}
+use Rattle.journal.specs.Journal.{by, editLength, readJournal, nextOf}
+use Rattle.edit.specs.Calls.{State, content, lengthsFit, fileFits, recordFits, opened, applied, request, replayed, undo, redo}
 use Rattle.command.specs.Words.{Word, words, insideLength}
 use Rattle.command.specs.Codes.{codeIn, needsBackslash, standsIn}
 use Rattle.command.specs.Command.{takesNext, pieceOf, widthOf, isItem, pieceFault, piecesFault, inside, unfit, quotedFault, faultAs, formOf, wordFault, takesFiles, argumentOf, wordsFault, readCommand, hasPiece, isName, isIcon}
@@ -37,7 +37,7 @@ use Rattle.command.specs.declared.Form.{Form}
 use Rattle.command.specs.declared.Form.the-variants as form
 use Rattle.exec.specs.Run.{runs}
 use Rattle.exec.specs.Expand.{fitItem, fitLocation, askedItems, nameText, iconText, runArguments, groupArguments, expand}
-use Rattle.kveldrim.proofs.Texts.{read-not2}
+use Rattle.kveldrim.proofs.NoByte.{read-not2}
 use Rattle.demands.specs.Book.{Call, Do, Undo, Redo}
 use Rattle.demands.specs.Demand3.{stateCall}
 use Rattle.demands.specs.BadLine.{BadAt, BadLineTold, BadLineToldByCalls, CheckPassedOn}
@@ -95,13 +95,13 @@ opened-tells s line byte e =
     (came-later (lengthsFit s) Damaged _ line byte refl e)
 
 edit-tells : (s : State) (c : Call) (line byte : ℕ) → stateCall s c ≡ refused (BadLine line byte) → check (content s) ≡ refused (BadLine line byte)
-unfolding request undo redo
+unfolding request applied undo redo
 edit-tells s (Do q) line byte e =
     opened-tells s line byte
     (came-first (opened s) _ line byte
-    (λ _. if-bind Not2 (editOf (content s) q) _ (request-refusals Not2 refl refl refl refl refl (content s) q) (λ d. if-need Not2 (fileFits (length (s .file)) (spliced d (content s))) NoRoom _ refl (λ _. if-need Not2 (recordFits (length (s .journal)) (s .standing) d) JournalFull _ refl (λ _. tt)))) e)
-edit-tells s Undo line byte e = opened-tells s line byte (came-first (opened s) _ line byte (λ j. if-some Not2 (nextOf (j .stand)) NothingLeft _ refl (λ d. replayed-not2 s (turned d) (s .standing - editLength d))) e)
-edit-tells s Redo line byte e = opened-tells s line byte (came-first (opened s) _ line byte (λ j. if-some Not2 (nextOf (j .wait)) NothingLeft _ refl (λ d. replayed-not2 s d (s .standing + editLength d))) e)
+    (λ _. if-bind Not2 (editOf (content s) (q .what)) _ (request-refusals Not2 refl refl refl refl refl (content s) (q .what)) (λ d. if-need Not2 (fileFits (length (s .file)) (spliced d (content s))) NoRoom _ refl (λ _. if-need Not2 (recordFits (length (s .journal)) (s .standing) (by (q .author) d)) JournalFull _ refl (λ _. tt)))) e)
+edit-tells s Undo line byte e = opened-tells s line byte (came-first (opened s) _ line byte (λ j. if-some Not2 (nextOf (j .stand)) NothingLeft _ refl (λ d. replayed-not2 s (turned (d .what)) (s .standing - editLength d))) e)
+edit-tells s Redo line byte e = opened-tells s line byte (came-first (opened s) _ line byte (λ j. if-some Not2 (nextOf (j .wait)) NothingLeft _ refl (λ d. replayed-not2 s (d .what) (s .standing + editLength d))) e)
 
 -- ---- the expansion
 

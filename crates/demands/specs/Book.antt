@@ -1,20 +1,20 @@
--- The book of demand 3: fed the starting file, both buffers' sizes and the calls, it keeps two lists of requests (01, "Edits and the journal").
--- Assumes nothing.
+-- The book of demand 3: fed the starting file, both buffers' sizes and the calls, it keeps two lists of requests (01, "Edits and the journal";
+-- 02, A9). Assumes nothing.
 use Prim.Native.Nat.{ℕ, _+_}
 use mathlib.Core.Path.{_≡_}
-use mathlib.Core.List.{List, [], _∷_}
+use mathlib.Core.List.{List, [], _∷_, reverseAux}
 use Rattle.fault.specs.declared.Fault.{Fault}
 use Rattle.fault.specs.declared.Fault.the-variants.{NoRoom, NothingLeft, JournalFull}
 use Rattle.fault.specs.Table.{placeOf, byteOf}
 use Rattle.fault.specs.Answer.{Answer, given, refused, _>>=_, need, then}
 use Rattle.splice.specs.Edit.{spliced}
 use Rattle.change.specs.Change.{Request, editOf}
-use Rattle.journal.specs.Journal.{editLength}
+use Rattle.journal.specs.Journal.{Authored, by, editLength}
 use Rattle.edit.specs.Calls.{fileFits, recordFits, atExit}
 
--- the calls: a set or remove, an undo, a redo
+-- the calls: a set or remove with its author, an undo, a redo; a set or remove without a person is 01's call, whose record is of kind 1
 pub data Call : Type 0 where
-  Do : Request → Call
+  Do : Authored Request → Call
   Undo : Call
   Redo : Call
 
@@ -23,18 +23,18 @@ pub record Book : Type 0 where
   pub start : List ℕ
   pub fileRoom : ℕ
   pub journalRoom : ℕ
-  pub standing : List Request
-  pub waiting : List Request
+  pub standing : List (Authored Request)
+  pub waiting : List (Authored Request)
 
 -- the starting bytes after the standing requests, in order
-unfoldable pub fileAfter : List ℕ → List Request → List ℕ
+unfoldable pub fileAfter : List ℕ → List (Authored Request) → List ℕ
 fileAfter start [] = start
-fileAfter start (q ∷ qs) = let file : List ℕ = fileAfter start qs in atExit file (then (λ e. spliced e file) (editOf file q))
+fileAfter start (q ∷ qs) = let file : List ℕ = fileAfter start qs in atExit file (then (λ e. spliced e file) (editOf file (q .what)))
 
--- the sum of those requests' record lengths
-unfoldable pub recordsAfter : List ℕ → List Request → ℕ
+-- the sum of those requests' record lengths, each its own record's
+unfoldable pub recordsAfter : List ℕ → List (Authored Request) → ℕ
 recordsAfter start [] = 0
-recordsAfter start (q ∷ qs) = recordsAfter start qs + atExit 0 (then editLength (editOf (fileAfter start qs) q))
+recordsAfter start (q ∷ qs) = recordsAfter start qs + atExit 0 (then (λ e. editLength (by (q .author) e)) (editOf (fileAfter start qs) (q .what)))
 
 -- the book's file
 abbrev pub bookFile : Book → List ℕ
@@ -44,26 +44,30 @@ bookFile b = fileAfter (b .start) (b .standing)
 abbrev pub bookStanding : Book → ℕ
 bookStanding b = recordsAfter (b .start) (b .standing)
 
+-- the book's requests in order: those standing from the first on, then those waiting
+abbrev pub inOrder : Book → List (Authored Request)
+inOrder b = reverseAux (b .standing) (b .waiting)
+
 -- the book with other lists
-abbrev pub withLists : Book → List Request → List Request → Book
+abbrev pub withLists : Book → List (Authored Request) → List (Authored Request) → Book
 withLists b standing waiting =
     record { start = b .start; fileRoom = b .fileRoom; journalRoom = b .journalRoom; standing = standing; waiting = waiting }
 
 -- set, remove: the first of 7, 10, 8, 6, 17, 11, 13 that applies refuses; else the request becomes the last standing, and none waits
-unfoldable pub bookRequest : Book → Request → Answer Book
+unfoldable pub bookRequest : Book → Authored Request → Answer Book
 bookRequest b q = do
-  e ← editOf (bookFile b) q
+  e ← editOf (bookFile b) (q .what)
   _ ← need (fileFits (b .fileRoom) (spliced e (bookFile b))) NoRoom
-  _ ← need (recordFits (b .journalRoom) (bookStanding b) e) JournalFull
+  _ ← need (recordFits (b .journalRoom) (bookStanding b) (by (q .author) e)) JournalFull
   given (withLists b (q ∷ b .standing) [])
 
 -- undo: 12 if none stands; else the last standing becomes the first waiting
-abbrev pub bookUndo : Book → List Request → Answer Book
+abbrev pub bookUndo : Book → List (Authored Request) → Answer Book
 bookUndo b [] = refused NothingLeft
 bookUndo b (q ∷ qs) = given (withLists b qs (q ∷ b .waiting))
 
 -- redo: 12 if none waits; else the first waiting becomes the last standing
-abbrev pub bookRedo : Book → List Request → Answer Book
+abbrev pub bookRedo : Book → List (Authored Request) → Answer Book
 bookRedo b [] = refused NothingLeft
 bookRedo b (q ∷ qs) = given (withLists b (q ∷ b .standing) qs)
 

@@ -1,18 +1,19 @@
--- Demand 3 of calls that met their contracts: those of the functions of `edit`, and those of the functions that a C program calls.
--- Assumes nothing.
+-- Demand 3 of calls that met their contracts: those of the functions of `edit`, and those of the functions that a C program calls. They may
+-- start from what 01's calls left (02, A9). Assumes nothing.
 use mathlib.Core.Path.{_≡_}
 use Prim.Native.Nat.{ℕ, zero, suc}
 use mathlib.Core.Bool.{true}
 use mathlib.Core.List.{List, [], _∷_, _++_}
 use lib.ListN.{length}
+use Rattle.base.specs.Lists.{all}
 use Rattle.wellformed.specs.WellFormed.{wellFormed}
 use Rattle.edit.specs.Calls.{State}
 use Rattle.edit.specs.Step.{lent, Made}
 use Rattle.edit.specs.declared.Edited.{Edited}
 use Rattle.edit.specs.declared.Edited.the-variants as edited
 use Rattle.kveldrim.specs.Abi.{Called}
-use Rattle.demands.specs.Book.{Call}
-use Rattle.demands.specs.Demand3.{stateCall, Told, Accepted, Refused, toldOf, startState, startBook, AsInTheBook}
+use Rattle.demands.specs.Book.{Call, Book, bookCall}
+use Rattle.demands.specs.Demand3.{stateCall, personFits, writesKind, Told, Accepted, Refused, toldOf, leftBy, startState, startBook, AsInTheBook}
 
 -- Calls in turn on the same buffers: what is lent at first, the calls, what each told, and what is lent at last. `step s c x t` says that the
 -- call c, lent s, told x and left t.
@@ -20,10 +21,13 @@ pub data Chain (step : State → Call → Told → State → Type 0) : State →
   no-call : {s : State} → Chain step s [] [] s
   one-call : {s t u : State} {c : Call} {cs : List Call} {x : Told} {xs : List Told} → step s c x t → Chain step t cs xs u → Chain step s (c ∷ cs) (x ∷ xs) u
 
--- demand 3 of every chain of such calls, from any well-formed file and an empty journal
+-- demand 3 of every chain of such calls, from what 01's calls left from any well-formed file and an empty journal; these may be none
 abbrev pub Demand3Of : (State → Call → Told → State → Type 0) → Type 0
-Demand3Of step = (start rest journal : List ℕ) (calls : List Call) (tolds : List Told) (s : State) → wellFormed start ≡ true
-    → Chain step (startState start rest journal) calls tolds s → AsInTheBook (startBook start (length (start ++ rest)) (length journal)) calls tolds s
+Demand3Of step = (start rest journal : List ℕ) (olds calls : List Call) (tolds : List Told) (s : State) → wellFormed start ≡ true
+    → all (writesKind 1) olds ≡ true → all personFits calls ≡ true
+    → Chain step (leftBy stateCall (startState start rest journal) olds) calls tolds s →
+    let b : Book = leftBy bookCall (startBook start (length (start ++ rest)) (length journal)) olds in
+    AsInTheBook b calls tolds s
 
 -- what an answer tells
 abbrev pub toldBy : Edited → Told

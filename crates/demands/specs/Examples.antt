@@ -1,4 +1,5 @@
--- The examples of 01 that are marked P, in its order: one table, under the one claim `ExamplesHold`. Assumes nothing.
+-- The examples of 01 that are marked P, in its order, and its record as A9 has it: one table, under the one claim `ExamplesHold`. Assumes
+-- nothing.
 use Prim.Native.Nat.{ℕ}
 use mathlib.Core.Path.{_≡_}
 use mathlib.Core.List.{List, [], _∷_, _++_, map}
@@ -13,6 +14,7 @@ use Rattle.entry.specs.Lookup.{Extent, lookup, partOf}
 use Rattle.entry.specs.Choose.{choose}
 use Rattle.exec.specs.Expand.{expand}
 use Rattle.change.specs.Change.{Set}
+use Rattle.journal.specs.Journal.{Author, NoPerson, Person, by}
 use Rattle.edit.specs.Calls.{request}
 use Rattle.demands.specs.Demand3.{startState}
 
@@ -67,11 +69,19 @@ reads raw = shown (λ s. s ∷ []) (readText raw)
 abbrev pub writes : List ℕ → Shown
 writes text = shown (λ s. s ∷ []) (writeText text)
 
--- T with this Name set: the length of the file, its buffer, and the journal's used bytes
-abbrev pub setName : List ℕ → Shown
-setName text =
+-- T with Name set to Les by an author, and a journal of so many bytes: the length of the file, its buffer, and the journal's used bytes
+abbrev pub setsLes : Author → ℕ → Shown
+setsLes author room =
     shown (λ t. (t .size ∷ []) ∷ t .file ∷ take (t .used) (t .journal) ∷ [])
-    (request (startState fileT [] (replicate 26 0)) (Set (ascii "Desktop Entry") (ascii "Name") text))
+    (request (startState fileT [] (replicate room 0)) (by author (Set (ascii "Desktop Entry") (ascii "Name") (ascii "Les"))))
+
+-- what that shows, where the record starts with these bytes
+abbrev pub lesSet : List ℕ → Shown
+lesSet front = Gives (
+    (69 ∷ [])
+    ∷ (file (ascii "[Desktop Entry]" ∷ ascii "Type=Application" ∷ ascii "Name=Les" ∷ ascii "Name[fr]=Lire" ∷ ascii "Exec=view %F" ∷ []) ++ (0 ∷ 0 ∷ []))
+    ∷ (front ++ (0x26 ∷ 0 ∷ 0 ∷ 0 ∷ 5 ∷ 0 ∷ 0 ∷ 0 ∷ 3 ∷ 0 ∷ 0 ∷ 0 ∷ 0x4c ∷ 0x65 ∷ 0x73 ∷ 0x65 ∷ 0x6e ∷ 0x4c ∷ 0x65 ∷ 0x73 ∷ []))
+    ∷ [])
 
 -- the arguments of run 0 of an Exec with this raw value, without files, as records
 abbrev pub expands : List ℕ → Shown
@@ -98,14 +108,8 @@ examples =
     }
     ∷ record { asked = writes (ascii " x"); expected = Gives (ascii "\\sx" ∷ []) }
     ∷ record { asked = reads (ascii "a\\q"); expected = Refuses 9 1 0 }
-    ∷ record {
-      asked = setName (ascii "Les");
-      expected = Gives (
-          (69 ∷ [])
-          ∷ (file (ascii "[Desktop Entry]" ∷ ascii "Type=Application" ∷ ascii "Name=Les" ∷ ascii "Name[fr]=Lire" ∷ ascii "Exec=view %F" ∷ []) ++ (0 ∷ 0 ∷ []))
-          ∷ (0x1a ∷ 0 ∷ 0 ∷ 0 ∷ 1 ∷ 0 ∷ 0x26 ∷ 0 ∷ 0 ∷ 0 ∷ 5 ∷ 0 ∷ 0 ∷ 0 ∷ 3 ∷ 0 ∷ 0 ∷ 0 ∷ 0x4c ∷ 0x65 ∷ 0x73 ∷ 0x65 ∷ 0x6e ∷ 0x4c ∷ 0x65 ∷ 0x73 ∷ [])
-          ∷ []);
-    }
+    ∷ record { asked = setsLes NoPerson 26; expected = lesSet (0x1a ∷ 0 ∷ 0 ∷ 0 ∷ 1 ∷ 0 ∷ []) }
+    ∷ record { asked = setsLes (Person 0x102) 28; expected = lesSet (0x1c ∷ 0 ∷ 0 ∷ 0 ∷ 4 ∷ 0 ∷ 2 ∷ 1 ∷ []) }
     ∷ record { asked = expands (ascii "view \"%f\""); expected = Refuses 16 6 0 }
     ∷ record { asked = expands (ascii "view %f %u"); expected = Refuses 16 8 0 }
     ∷ record { asked = expands (ascii "view \"a\\\\$b\""); expected = Gives ((recordOf 10 3 (ascii "view") ++ recordOf 9 3 (ascii "a$b")) ∷ []) }

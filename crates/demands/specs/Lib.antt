@@ -4,6 +4,7 @@ pub mod Edits
 pub mod Merge
 pub mod Book
 pub mod Demand3
+pub mod Persons
 pub mod Contracts
 pub mod Examples
 pub mod Commands

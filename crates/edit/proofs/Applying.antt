@@ -20,23 +20,24 @@ use Rattle.fault.specs.declared.Fault.the-variants.{NoRoom, JournalFull}
 use Rattle.fault.specs.Answer.{Answer, given, refused, _>>=_, need}
 use Rattle.base.proofs.Tests.{no}
 use Rattle.splice.specs.Edit.{Edit, replaced, spliced, bufferWith}
-use Rattle.journal.specs.Journal.{Journal, editRecord, editLength}
+use Rattle.journal.specs.Journal.{Author, Authored, by, frontLength, Journal, editRecord, editLength}
 use Rattle.journal.specs.Walk.{editFront}
+use Rattle.journal.proofs.Records.{front-length}
 use Rattle.journal.proofs.Front.{record-front}
 use Rattle.change.specs.Change.{Request, editOf}
 use Rattle.change.specs.Target.{newBytes, editBy, Meets}
 use Rattle.change.specs.declared.Target.{Target}
 use Rattle.change.specs.declared.Target.the-variants.{Value, Entry, Line as Gone}
-use Rattle.edit.specs.Calls.{State, content, opened, fileFits, recordFits, request}
-use Rattle.edit.specs.Step.{lent, passed, applied, Made}
+use Rattle.edit.specs.Calls.{State, content, opened, fileFits, recordFits, applied, request}
+use Rattle.edit.specs.Step.{lent, passed, appliedBy, Made}
 use Rattle.edit.specs.declared.Edited.{Edited}
 use Rattle.edit.specs.declared.Edited.the-variants.{Done, Refused}
 
 -- ---- the record
 
-length-front : (place : ℕ) (old : List ℕ) (n : ℕ) → length (editFront place old n) ≡ 18 + length old
+length-front : (author : Author) (place : ℕ) (old : List ℕ) (n : ℕ) → length (editFront author place old n) ≡ frontLength author + length old
 unfolding editFront
-length-front place old n = simp (length-append, length-head, length-number) (omega arith)
+length-front author place old n = simp (length-append, length-head, length-number) (omega (arith, front-length author))
 
 -- what was written at a place stands there
 part-over : (s : List ℕ) (at : ℕ) (x : List ℕ) → at + length x ≤ length s → part at (at + length x) (over s at x) ≡ x
@@ -46,18 +47,18 @@ part-over s at x h =
     rw (drop-at (take at s) (x ++ drop (at + length x) s) at f, k) (take-at x (drop (at + length x) s) (length x) refl)
 
 -- the front of a record and then its new bytes
-module _ (j : List ℕ) (standing : ℕ) (e : Edit) (n : ℕ) (q : n ≡ length (e .new)) (h : standing + (18 + length (e .old) + n) ≤ length j) {j₁ j₂ : List ℕ} {from : ℕ}
-    (a : j₁ ≡ over j standing (editFront (e .place) (e .old) n)) (f : from ≡ standing + 18 + length (e .old)) (b : j₂ ≡ over j₁ from (e .new)) where
-  pub record-written : j₂ ≡ over j standing (recordBytes (editRecord e))
+module _ (j : List ℕ) (standing : ℕ) (author : Author) (e : Edit) (n : ℕ) (q : n ≡ length (e .new)) (h : standing + (frontLength author + length (e .old) + n) ≤ length j) {j₁ j₂ : List ℕ} {from : ℕ}
+    (a : j₁ ≡ over j standing (editFront author (e .place) (e .old) n)) (f : from ≡ standing + frontLength author + length (e .old)) (b : j₂ ≡ over j₁ from (e .new)) where
+  pub record-written : j₂ ≡ over j standing (recordBytes (editRecord (by author e)))
   record-written =
-      let l = length-front (e .place) (e .old) n in
-      b ∙ ap (λ (x : List ℕ). over x from (e .new)) a ∙ over-then j standing (editFront (e .place) (e .old) n) (e .new) {n = from} (omega arith) (omega arith)
-      ∙ rw (q, ← record-front e)
+      let l = length-front author (e .place) (e .old) n in
+      b ∙ ap (λ (x : List ℕ). over x from (e .new)) a ∙ over-then j standing (editFront author (e .place) (e .old) n) (e .new) {n = from} (omega arith) (omega arith)
+      ∙ rw (q, ← record-front (by author e))
 
   pub new-written : part from (from + length (e .new)) j₂ ≡ e .new
   new-written =
-      let l = length-front (e .place) (e .old) n in
-      let m : length j₁ ≡ length j = ap length a ∙ length-over j standing (editFront (e .place) (e .old) n) (omega arith) in
+      let l = length-front author (e .place) (e .old) n in
+      let m : length j₁ ≡ length j = ap length a ∙ length-over j standing (editFront author (e .place) (e .old) n) (omega arith) in
       rw b (part-over j₁ from (e .new) (omega arith))
 
 -- a part inside the front of a list
@@ -85,19 +86,19 @@ over-first n a b h = rw (lt-leb n a h)
 fits-both : (n a b : ℕ) → n ≤ a → n ≤ b → (leb n a && leb n b) ≡ true
 fits-both n a b h k = rw (le-leb n a h, le-leb n b k)
 
-module _ (s : State) (e : Edit) where
-  no-room : fileFits (length (s .file)) (spliced e (content s)) ≡ false → applied s (given e) ≡ refused NoRoom
+module _ (s : State) (e : Authored Edit) where
+  no-room : fileFits (length (s .file)) (spliced (e .what) (content s)) ≡ false → applied s e ≡ refused NoRoom
   unfolding applied
   no-room f = rw f
 
-  no-record : fileFits (length (s .file)) (spliced e (content s)) ≡ true → recordFits (length (s .journal)) (s .standing) e ≡ false → applied s (given e) ≡ refused JournalFull
+  no-record : fileFits (length (s .file)) (spliced (e .what) (content s)) ≡ true → recordFits (length (s .journal)) (s .standing) e ≡ false → applied s e ≡ refused JournalFull
   unfolding applied
   no-record f g = rw (f, g)
 
-  made : fileFits (length (s .file)) (spliced e (content s)) ≡ true → recordFits (length (s .journal)) (s .standing) e ≡ true
-      → applied s (given e) ≡ given (record {
-        file = bufferWith (s .file) (s .size) (spliced e (content s));
-        size = length (spliced e (content s));
+  made : fileFits (length (s .file)) (spliced (e .what) (content s)) ≡ true → recordFits (length (s .journal)) (s .standing) e ≡ true
+      → applied s e ≡ given (record {
+        file = bufferWith (s .file) (s .size) (spliced (e .what) (content s));
+        size = length (spliced (e .what) (content s));
         journal = over (s .journal) (s .standing) (recordBytes (editRecord e));
         used = s .standing + editLength e;
         standing = s .standing + editLength e;
@@ -106,30 +107,30 @@ module _ (s : State) (e : Edit) where
   made f g = rw (f, g)
 
   -- a refusal changes nothing
-  refused-made : {f : Fault} → applied s (given e) ≡ refused f → Made s (applied s (given e)) (Refused f) (s .file) (s .journal)
+  refused-made : {f : Fault} → applied s e ≡ refused f → Made s (applied s e) (Refused f) (s .file) (s .journal)
   refused-made q = record { answer = rw q; file-is = rw q; journal-is = rw q }
 
-  module _ (h : e .place + length (e .old) ≤ length (content s)) where
-    pub file-full : length (s .file) < length (content s) - length (e .old) + length (e .new) → Made s (applied s (given e)) (Refused NoRoom) (s .file) (s .journal)
-    file-full k = refused-made (no-room (over-first (length (spliced e (content s))) (length (s .file)) 32768 (rw (length-spliced e (content s) h) k)))
+  module _ (h : e .what .place + length (e .what .old) ≤ length (content s)) where
+    pub file-full : length (s .file) < length (content s) - length (e .what .old) + length (e .what .new) → Made s (applied s e) (Refused NoRoom) (s .file) (s .journal)
+    file-full k = refused-made (no-room (over-first (length (spliced (e .what) (content s))) (length (s .file)) 32768 (rw (length-spliced (e .what) (content s) h) k)))
 
-    pub file-most : 32768 < length (content s) - length (e .old) + length (e .new) → Made s (applied s (given e)) (Refused NoRoom) (s .file) (s .journal)
-    file-most k = refused-made (no-room (over-either (length (spliced e (content s))) (length (s .file)) 32768 (rw (length-spliced e (content s) h) k)))
+    pub file-most : 32768 < length (content s) - length (e .what .old) + length (e .what .new) → Made s (applied s e) (Refused NoRoom) (s .file) (s .journal)
+    file-most k = refused-made (no-room (over-either (length (spliced (e .what) (content s))) (length (s .file)) 32768 (rw (length-spliced (e .what) (content s) h) k)))
 
-    module _ (a : length (content s) - length (e .old) + length (e .new) ≤ length (s .file)) (b : length (content s) - length (e .old) + length (e .new) ≤ 32768) where
-      fits : fileFits (length (s .file)) (spliced e (content s)) ≡ true
-      fits = let l = length-spliced e (content s) h in fits-both (length (spliced e (content s))) (length (s .file)) 32768 (omega arith) (omega arith)
+    module _ (a : length (content s) - length (e .what .old) + length (e .what .new) ≤ length (s .file)) (b : length (content s) - length (e .what .old) + length (e .what .new) ≤ 32768) where
+      fits : fileFits (length (s .file)) (spliced (e .what) (content s)) ≡ true
+      fits = let l = length-spliced (e .what) (content s) h in fits-both (length (spliced (e .what) (content s))) (length (s .file)) 32768 (omega arith) (omega arith)
 
-      pub journal-full : length (s .journal) < s .standing + editLength e → Made s (applied s (given e)) (Refused JournalFull) (s .file) (s .journal)
+      pub journal-full : length (s .journal) < s .standing + editLength e → Made s (applied s e) (Refused JournalFull) (s .file) (s .journal)
       journal-full k = refused-made (no-record fits (over-first (s .standing + editLength e) (length (s .journal)) 65536 k))
 
-      pub journal-most : 65536 < s .standing + editLength e → Made s (applied s (given e)) (Refused JournalFull) (s .file) (s .journal)
+      pub journal-most : 65536 < s .standing + editLength e → Made s (applied s e) (Refused JournalFull) (s .file) (s .journal)
       journal-most k = refused-made (no-record fits (over-either (s .standing + editLength e) (length (s .journal)) 65536 k))
 
       pub all-made : s .standing + editLength e ≤ length (s .journal) → s .standing + editLength e ≤ 65536
-          → {n m : ℕ} {file journal : List ℕ} → n ≡ length (spliced e (content s)) → m ≡ s .standing + editLength e
-          → file ≡ bufferWith (s .file) (s .size) (spliced e (content s)) → journal ≡ over (s .journal) (s .standing) (recordBytes (editRecord e))
-          → Made s (applied s (given e)) (Done n m m) file journal
+          → {n m : ℕ} {file journal : List ℕ} → n ≡ length (spliced (e .what) (content s)) → m ≡ s .standing + editLength e
+          → file ≡ bufferWith (s .file) (s .size) (spliced (e .what) (content s)) → journal ≡ over (s .journal) (s .standing) (recordBytes (editRecord e))
+          → Made s (applied s e) (Done n m m) file journal
       all-made c d {n} {m} {file} {journal} u v x y =
           let q = made fits (fits-both (s .standing + editLength e) (length (s .journal)) 65536 c d) in
           record { answer = rw (q, u, v); file-is = rw q x; journal-is = rw q y }
@@ -152,13 +153,13 @@ module _ (f key text : List ℕ) {t : Target} where
 -- ---- a request
 
 -- the bytes used before do not matter to what is told and left
-used-free : (s : State) (u : ℕ) (a : Answer Edit) {r : Edited} {file journal : List ℕ}
+used-free : (s : State) (u : ℕ) (author : Author) (a : Answer Edit) {r : Edited} {file journal : List ℕ}
     → Made (record { file = s .file; size = s .size; journal = s .journal; used = u; standing = s .standing })
-    (applied (record { file = s .file; size = s .size; journal = s .journal; used = u; standing = s .standing }) a) r file journal
-    → Made s (applied s a) r file journal
+    (appliedBy (record { file = s .file; size = s .size; journal = s .journal; used = u; standing = s .standing }) author a) r file journal
+    → Made s (appliedBy s author a) r file journal
 unfolding applied
-used-free s u (refused f) m = record { answer = m .answer; file-is = m .file-is; journal-is = m .journal-is }
-used-free s u (given e) {r} {file} {journal} m = go (fileFits (length (s .file)) (spliced e (content s))) (recordFits (length (s .journal)) (s .standing) e) m
+used-free s u author (refused f) m = record { answer = m .answer; file-is = m .file-is; journal-is = m .journal-is }
+used-free s u author (given e) {r} {file} {journal} m = go (fileFits (length (s .file)) (spliced e (content s))) (recordFits (length (s .journal)) (s .standing) (by author e)) m
   where
     t : State
     t = record { file = s .file; size = s .size; journal = s .journal; used = u; standing = s .standing }
@@ -167,9 +168,9 @@ used-free s u (given e) {r} {file} {journal} m = go (fileFits (length (s .file))
     done = record {
       file = bufferWith (s .file) (s .size) (spliced e (content s));
       size = length (spliced e (content s));
-      journal = over (s .journal) (s .standing) (recordBytes (editRecord e));
-      used = s .standing + editLength e;
-      standing = s .standing + editLength e;
+      journal = over (s .journal) (s .standing) (recordBytes (editRecord (by author e)));
+      used = s .standing + editLength (by author e);
+      standing = s .standing + editLength (by author e);
     }
 
     go : (x y : Bool) → Made t (need x NoRoom >>= λ _. (need y JournalFull >>= λ _. given done)) r file journal
@@ -178,39 +179,23 @@ used-free s u (given e) {r} {file} {journal} m = go (fileFits (length (s .file))
     go true false m = record { answer = m .answer; file-is = m .file-is; journal-is = m .journal-is }
     go false y m = record { answer = m .answer; file-is = m .file-is; journal-is = m .journal-is }
 
--- a request, once what is lent was opened
-request-by : (s : State) (q : Request) → request s q ≡ (opened s >>= λ _. applied s (editOf (content s) q))
-unfolding request applied
-request-by s q = go (opened s)
-  where
-    go : (o : Answer Journal)
-        → (o >>= λ _. (editOf (content s) q >>= λ e. (need (fileFits (length (s .file)) (spliced e (content s))) NoRoom
-        >>= λ _. (need (recordFits (length (s .journal)) (s .standing) e) JournalFull >>= λ _. given (record {
-          file = bufferWith (s .file) (s .size) (spliced e (content s));
-          size = length (spliced e (content s));
-          journal = over (s .journal) (s .standing) (recordBytes (editRecord e));
-          used = s .standing + editLength e;
-          standing = s .standing + editLength e;
-        })))))
-        ≡ (o >>= λ _. applied s (editOf (content s) q))
-    go (given j) = refl
-    go (refused f) = refl
-
-module _ (s : State) (q : Request) where
+module _ (s : State) (q : Authored Request) where
   -- not opened: the same refusal, and nothing changes
   pub not-opened : {f : Fault} → refused f ≡ passed (opened s) → Made s (request s q) (Refused f) (s .file) (s .journal)
-  not-opened {f} e = rw (request-by s q) (go (opened s) e)
+  unfolding request
+  not-opened {f} e = go (opened s) e
     where
-      go : (o : Answer Journal) → refused f ≡ passed o → Made s (o >>= λ _. applied s (editOf (content s) q)) (Refused f) (s .file) (s .journal)
+      go : (o : Answer Journal) → refused f ≡ passed o → Made s (o >>= λ _. appliedBy s (q .author) (editOf (content s) (q .what))) (Refused f) (s .file) (s .journal)
       go (given j) h = no (cc)
       go (refused g) h = let w : f ≡ g = cc in rw w (record { answer = refl; file-is = refl; journal-is = refl })
 
   -- opened: the target's edit is the request's
-  pub was-opened : given tt ≡ passed (opened s) → {key text : List ℕ} {t : Target} {r : Edited} {file journal : List ℕ} → Meets (content s) key text (editOf (content s) q) t
-      → Made (lent (s .file) (s .size) (s .journal) 0 (s .standing)) (applied (lent (s .file) (s .size) (s .journal) 0 (s .standing)) (editBy (content s) key text t)) r file journal
+  pub was-opened : given tt ≡ passed (opened s) → {key text : List ℕ} {t : Target} {r : Edited} {file journal : List ℕ} → Meets (content s) key text (editOf (content s) (q .what)) t
+      → Made (lent (s .file) (s .size) (s .journal) 0 (s .standing)) (appliedBy (lent (s .file) (s .size) (s .journal) 0 (s .standing)) (q .author) (editBy (content s) key text t)) r file journal
       → Made s (request s q) r file journal
-  was-opened e {key} {text} {t} {r} {file} {journal} w m = rw (request-by s q) (go (opened s) e)
+  unfolding request
+  was-opened e {key} {text} {t} {r} {file} {journal} w m = go (opened s) e
     where
-      go : (o : Answer Journal) → given tt ≡ passed o → Made s (o >>= λ _. applied s (editOf (content s) q)) r file journal
-      go (given j) h = rw (← w .is) (used-free s 0 (editBy (content s) key text t) m)
+      go : (o : Answer Journal) → given tt ≡ passed o → Made s (o >>= λ _. appliedBy s (q .author) (editOf (content s) (q .what))) r file journal
+      go (given j) h = rw (← w .is) (used-free s 0 (q .author) (editBy (content s) key text t) m)
       go (refused g) h = no (cc)

@@ -19,7 +19,9 @@ use Rattle.rows.specs.Find.{noneBad}
 use Rattle.wellformed.specs.Check.{check}
 use Rattle.wellformed.proofs.Accepts.{check-good}
 use Rattle.journal.specs.Journal.{Journal, readJournal}
-use Rattle.edit.specs.Calls.{State, content, lengthsFit, opened}
+use Rattle.journal.specs.Lent.{numbersFit, journalIn}
+use Rattle.journal.proofs.Numbers.{Bounds, numbers-bounds}
+use Rattle.edit.specs.Calls.{State, content, journalOf, lengthsFit, opened}
 use Rattle.edit.specs.Step.{readied, passed}
 
 module _ (s : State) where
@@ -28,61 +30,45 @@ module _ (s : State) where
   size-over h = rw (lt-leb (s .size) (length (s .file)) h)
 
   module _ (a : s .size ≤ length (s .file)) where
-    pub used-over : length (s .journal) < s .used → refused Damaged ≡ readied s
+    pub numbers-over : numbersFit (journalOf s) ≡ false → refused Damaged ≡ readied s
     unfolding readied lengthsFit
-    used-over h = rw (le-leb (s .size) (length (s .file)) a, lt-leb (s .used) (length (s .journal)) h)
+    numbers-over h = rw (le-leb (s .size) (length (s .file)) a, h)
 
-    module _ (b : s .used ≤ length (s .journal)) where
-      pub used-most : 65536 < s .used → refused Damaged ≡ readied s
-      unfolding readied lengthsFit
-      used-most h = rw (le-leb (s .size) (length (s .file)) a, le-leb (s .used) (length (s .journal)) b, lt-leb (s .used) 65536 h)
-
-      module _ (d : s .used ≤ 65536) where
-        pub standing-over : s .used < s .standing → refused Damaged ≡ readied s
-        unfolding readied lengthsFit
-        standing-over h = rw (le-leb (s .size) (length (s .file)) a, le-leb (s .used) (length (s .journal)) b, le-leb (s .used) 65536 d, lt-leb (s .standing) (s .used) h)
-
-        pub lengths-fit : s .standing ≤ s .used → readied s ≡ check (content s)
-        unfolding readied lengthsFit
-        lengths-fit h = rw (le-leb (s .size) (length (s .file)) a, le-leb (s .used) (length (s .journal)) b, le-leb (s .used) 65536 d, le-leb (s .standing) (s .used) h)
+    pub lengths-fit : numbersFit (journalOf s) ≡ true → readied s ≡ check (content s)
+    unfolding readied lengthsFit
+    lengths-fit h = rw (le-leb (s .size) (length (s .file)) a, h)
 
 -- ---- what is known once the numbers fit and the file is well formed
 
 -- the numbers lie in their bounds, no line of the file is bad, and it is not too long
 pub record Fits (s : State) : Type 0 where
   pub size-fits : s .size ≤ length (s .file)
-  pub used-fits : s .used ≤ length (s .journal)
-  pub used-bound : s .used ≤ 65536
-  pub standing-fits : s .standing ≤ s .used
+  pub numbers : Bounds (journalOf s)
   pub none-bad : noneBad (content s) ≡ true
   pub size-bound : s .size ≤ 32768
 
 pub ready-fits : (s : State) → given tt ≡ readied s → Fits s
 unfolding readied lengthsFit
 ready-fits s e =
-    let b = need-given (leb (s .size) (length (s .file)) && leb (s .used) (length (s .journal)) && leb (s .used) 65536 && leb (s .standing) (s .used)) Damaged (λ _. check (content s)) tt (sym e) in
-    let l = and-both (leb (s .size) (length (s .file)) && leb (s .used) (length (s .journal)) && leb (s .used) 65536) (leb (s .standing) (s .used)) (b .0) in
-    let m = and-both (leb (s .size) (length (s .file)) && leb (s .used) (length (s .journal))) (leb (s .used) 65536) (l .0) in
-    let n = and-both (leb (s .size) (length (s .file))) (leb (s .used) (length (s .journal))) (m .0) in
-    let f = leb-true (s .size) (length (s .file)) (n .0) in
+    let b = need-given (leb (s .size) (length (s .file)) && numbersFit (journalOf s)) Damaged (λ _. check (content s)) tt (sym e) in
+    let a = and-both (leb (s .size) (length (s .file))) (numbersFit (journalOf s)) (b .0) in
+    let f = leb-true (s .size) (length (s .file)) (a .0) in
     let g = check-good desktopEntry (content s) (sym (b .1)) in
     record {
       size-fits = f;
-      used-fits = leb-true (s .used) (length (s .journal)) (n .1);
-      used-bound = leb-true (s .used) 65536 (m .1);
-      standing-fits = leb-true (s .standing) (s .used) (l .1);
+      numbers = numbers-bounds (journalOf s) (a .1);
       none-bad = g .0;
       size-bound = omega (arith, length-take-le (s .size) (s .file) f, g .1);
     }
 
 -- what every call asks first, in two steps
-pub opened-by : (s : State) → opened s ≡ (readied s >>= λ _. some-or (readJournal (take (s .used) (s .journal)) (s .standing)) Damaged)
+pub opened-by : (s : State) → opened s ≡ (readied s >>= λ _. journalIn (journalOf s))
 unfolding opened readied
 opened-by s = go (lengthsFit s) (check (content s))
   where
     go : (t : Bool) (a : Answer (Unit {0}))
-        → (need t Damaged >>= λ _. (a >>= λ _. some-or (readJournal (take (s .used) (s .journal)) (s .standing)) Damaged))
-        ≡ ((need t Damaged >>= λ _. a) >>= λ _. some-or (readJournal (take (s .used) (s .journal)) (s .standing)) Damaged)
+        → (need t Damaged >>= λ _. (a >>= λ _. journalIn (journalOf s)))
+        ≡ ((need t Damaged >>= λ _. a) >>= λ _. journalIn (journalOf s))
     go true a = refl
     go false a = refl
 
@@ -109,6 +95,6 @@ module _ (s : State) where
   pub opened-ready : given tt ≡ passed (opened s) → given tt ≡ readied s
   opened-ready q = go (readied s) (sym (ap passed (opened-by s)) ∙ sym q)
     where
-      go : (a : Answer (Unit {0})) → passed (a >>= λ _. some-or (readJournal (take (s .used) (s .journal)) (s .standing)) Damaged) ≡ given tt → given tt ≡ a
+      go : (a : Answer (Unit {0})) → passed (a >>= λ _. journalIn (journalOf s)) ≡ given tt → given tt ≡ a
       go (given tt) h = refl
       go (refused f) h = no (cc)

@@ -3,10 +3,8 @@ use mathlib.Core.Path.{_≡_, refl, sym, _∙_}
 use mathlib.Core.Bool.{Bool, true, false}
 use mathlib.Core.Option.{Option, none, some}
 use mathlib.Core.List.{List}
-use Prim.Native.Nat.{ℕ, _+_, _-_, _≤_}
-use native.Mathlib.Omega.{arith}
+use Prim.Native.Nat.{ℕ, _+_, _-_}
 use lib.ListN.{length, take}
-use Rattle.base.proofs.Lists.{length-part}
 use Rattle.base.proofs.Tests.{no}
 use Rattle.fault.specs.declared.Fault.{Fault}
 use Rattle.fault.specs.declared.Fault.the-variants.{Damaged, NoRoom, NothingLeft}
@@ -14,10 +12,10 @@ use Rattle.fault.specs.Answer.{Answer, given, refused, _>>=_, need, some-or, th
 use Rattle.wellformed.specs.Check.{check}
 use Rattle.wellformed.specs.WellFormed.{wellFormed}
 use Rattle.splice.specs.Edit.{Edit, spliced, turned, stands, bufferWith}
-use Rattle.journal.specs.Journal.{Journal, editLength, readJournal, nextOf}
-use Rattle.journal.specs.Walk.{latest, waiting}
-use Rattle.journal.proofs.Walking.{named}
-use Rattle.edit.specs.Calls.{State, content, lengthsFit, opened, fileFits, replayed, undo, redo, atExit}
+use Rattle.journal.specs.Journal.{Authored, Journal, editLength, nextOf}
+use Rattle.journal.specs.Lent.{journalIn}
+use Rattle.journal.specs.Walk.{Placed, endingAt, startingAt, latest, waiting}
+use Rattle.edit.specs.Calls.{State, content, journalOf, lengthsFit, opened, fileFits, replayed, undo, redo, atExit}
 use Rattle.edit.specs.Step.{answered, told, readied, replayedIn, numbers, became, Made}
 use Rattle.edit.specs.declared.Edited.{Edited}
 use Rattle.edit.specs.declared.Edited.the-variants as edited
@@ -98,14 +96,14 @@ replayed-journal s e n = go (stands e (content s)) (fileFits (length (s .file)) 
     go true false z = refl
     go false y z = refl
 
-turned-journal : (s : State) (a : Answer Journal) (pick : Journal → Option Edit) (turn : Edit → Edit) (n : Edit → ℕ)
-    → atExit s (a >>= λ j. (some-or (pick j) NothingLeft >>= λ e. replayed s (turn e) (n e))) .journal ≡ s .journal
+turned-journal : (s : State) (a : Answer Journal) (pick : Journal → Option (Authored Edit)) (turn : Edit → Edit) (n : Authored Edit → ℕ)
+    → atExit s (a >>= λ j. (some-or (pick j) NothingLeft >>= λ e. replayed s (turn (e .what)) (n e))) .journal ≡ s .journal
 turned-journal s (refused f) pick turn n = refl
 turned-journal s (given j) pick turn n = go (pick j)
   where
-    go : (o : Option Edit) → atExit s (some-or o NothingLeft >>= λ e. replayed s (turn e) (n e)) .journal ≡ s .journal
+    go : (o : Option (Authored Edit)) → atExit s (some-or o NothingLeft >>= λ e. replayed s (turn (e .what)) (n e)) .journal ≡ s .journal
     go none = refl
-    go (some e) = replayed-journal s (turn e) (n e)
+    go (some e) = replayed-journal s (turn (e .what)) (n e)
 
 undo-journal : (s : State) → s .journal ≡ atExit s (undo s) .journal
 unfolding undo
@@ -118,37 +116,41 @@ redo-journal s = sym (turned-journal s (opened s) (λ j. nextOf (j .wait)) (λ e
 -- ---- a call by its steps
 
 -- A call asks whether what is lent is in order, then for an edit; it makes that edit or the same turned round, with another standing number.
-pub record Steps (s : State) (from : Answer Edit) (turn : Edit → Edit) (number : Edit → ℕ) (call : Answer State) : Type 0 where
-  pub is : call ≡ (readied s >>= λ _. from >>= λ e. replayed s (turn e) (number e))
+pub record Steps (s : State) (from : Answer Placed) (turn : Edit → Edit) (number : Placed → ℕ) (call : Answer State) : Type 0 where
+  pub is : call ≡ (readied s >>= λ _. from >>= λ p. replayed s (turn (p .edit)) (number p))
   pub keeps : s .journal ≡ atExit s call .journal
 
--- the first of some of the journal's edits
-abbrev asked : State → (Journal → List Edit) → Answer Edit
-asked s which = some-or (readJournal (take (s .used) (s .journal)) (s .standing)) Damaged >>= λ j. some-or (nextOf (which j)) NothingLeft
+-- the first of some of the journal's edits, and where its record is
+abbrev asked : State → (Journal → List (Authored Edit)) → (Authored Edit → Placed) → Answer Placed
+asked s which place = journalIn (journalOf s) >>= λ j. then place (some-or (nextOf (which j)) NothingLeft)
 
-steps : (s : State) (which : Journal → List Edit) (make : Edit → Answer State)
-    → (opened s >>= λ j. some-or (nextOf (which j)) NothingLeft >>= make) ≡ (readied s >>= λ _. asked s which >>= make)
+steps : (s : State) (which : Journal → List (Authored Edit)) (place : Authored Edit → Placed) (make : Placed → Answer State)
+    → (opened s >>= λ j. some-or (nextOf (which j)) NothingLeft >>= λ e. make (place e)) ≡ (readied s >>= λ _. asked s which place >>= make)
 unfolding opened readied
-steps s which make = by (lengthsFit s) (check (content s)) (readJournal (take (s .used) (s .journal)) (s .standing))
+steps s which place make = by-all (lengthsFit s) (check (content s)) (journalIn (journalOf s))
   where
-    by : (t : Bool) (a : Answer (Unit {0})) (o : Option Journal)
-        → ((need t Damaged >>= λ _. a >>= λ _. some-or o Damaged) >>= λ j. some-or (nextOf (which j)) NothingLeft >>= make)
-        ≡ ((need t Damaged >>= λ _. a) >>= λ _. (some-or o Damaged >>= λ j. some-or (nextOf (which j)) NothingLeft) >>= make)
-    by true (given tt) (some j) = refl
-    by true (given tt) none = refl
-    by true (refused f) o = refl
-    by false a o = refl
+    by-next : (o : Option (Authored Edit)) → (some-or o NothingLeft >>= λ e. make (place e)) ≡ (then place (some-or o NothingLeft) >>= make)
+    by-next none = refl
+    by-next (some e) = refl
 
-pub undo-steps : (s : State) → Steps s (latest (take (s .used) (s .journal)) (s .standing)) turned (λ e. s .standing - editLength e) (undo s)
+    by-all : (t : Bool) (a : Answer (Unit {0})) (o : Answer Journal)
+        → ((need t Damaged >>= λ _. a >>= λ _. o) >>= λ j. some-or (nextOf (which j)) NothingLeft >>= λ e. make (place e))
+        ≡ ((need t Damaged >>= λ _. a) >>= λ _. (o >>= λ j. then place (some-or (nextOf (which j)) NothingLeft)) >>= make)
+    by-all true (given tt) (given j) = by-next (nextOf (which j))
+    by-all true (given tt) (refused f) = refl
+    by-all true (refused f) o = refl
+    by-all false a o = refl
+
+pub undo-steps : (s : State) → Steps s (latest (take (s .used) (s .journal)) (s .standing)) turned (λ p. p .start) (undo s)
 unfolding undo
-undo-steps s = record { is = steps s (λ j. j .stand) (λ e. replayed s (turned e) (s .standing - editLength e)); keeps = undo-journal s }
+undo-steps s = record { is = steps s (λ j. j .stand) (endingAt (s .standing)) (λ p. replayed s (turned (p .edit)) (p .start)); keeps = undo-journal s }
 
-pub redo-steps : (s : State) → Steps s (waiting (take (s .used) (s .journal)) (s .standing)) (λ e. e) (λ e. s .standing + editLength e) (redo s)
+pub redo-steps : (s : State) → Steps s (waiting (take (s .used) (s .journal)) (s .standing)) (λ e. e) (λ p. p .end) (redo s)
 unfolding redo
-redo-steps s = record { is = steps s (λ j. j .wait) (λ e. replayed s e (s .standing + editLength e)); keeps = redo-journal s }
+redo-steps s = record { is = steps s (λ j. j .wait) (startingAt (s .standing)) (λ p. replayed s (p .edit) (p .end)); keeps = redo-journal s }
 
 -- what the call answers and leaves
-module _ {s : State} {from : Answer Edit} {turn : Edit → Edit} {number : Edit → ℕ} {call : Answer State} (w : Steps s from turn number call) where
+module _ {s : State} {from : Answer Placed} {turn : Edit → Edit} {number : Placed → ℕ} {call : Answer State} (w : Steps s from turn number call) where
   refused-so : {f : Fault} → call ≡ refused f → Made s call (edited.Refused f) (s .file) (s .journal)
   refused-so e = record { answer = rw e; file-is = rw e; journal-is = w .keeps }
 
@@ -159,14 +161,11 @@ module _ {s : State} {from : Answer Edit} {turn : Edit → Edit} {number : Edit 
     pub made-unread : {f : Fault} → refused f ≡ from → Made s call (edited.Refused f) (s .file) (s .journal)
     made-unread g = refused-so (w .is ∙ rw (← r, ← g))
 
-    pub made-again : {e : Edit} {n : ℕ} {x : Edited} {file : List ℕ} → given e ≡ from → number e ≡ n
-        → answered x ≡ then (numbers (s .used) n) (replayedIn (length (s .file)) (content s) (turn e))
-        → file ≡ became (s .file) (s .size) (replayedIn (length (s .file)) (content s) (turn e))
+    pub made-again : {p : Placed} {x : Edited} {file : List ℕ} → given p ≡ from
+        → answered x ≡ then (numbers (s .used) (number p)) (replayedIn (length (s .file)) (content s) (turn (p .edit)))
+        → file ≡ became (s .file) (s .size) (replayedIn (length (s .file)) (content s) (turn (p .edit)))
         → Made s call x file (s .journal)
-    made-again {e} {n} g k p q =
-        let i : call ≡ replayed s (turn e) n = w .is ∙ rw (← r, ← g, k) in
-        record { answer = p ∙ sym (rw i (replayed-told s (turn e) n)); file-is = q ∙ sym (rw i (replayed-file s (turn e) n)); journal-is = w .keeps }
-
--- the length of a record, by where its old and its new bytes start and where it ends
-pub edit-length : (u : List ℕ) (place old new end : ℕ) → old ≤ new → new ≤ end → end ≤ length u → editLength (named u place old new end) + old ≡ 18 + end
-edit-length u place old new end h k l = omega (arith, length-part old new u (omega arith), length-part new end u (omega arith))
+    made-again {p} g a b =
+        let e : Edit = turn (p .edit) in
+        let i : call ≡ replayed s e (number p) = w .is ∙ rw (← r, ← g) in
+        record { answer = a ∙ sym (rw i (replayed-told s e (number p))); file-is = b ∙ sym (rw i (replayed-file s e (number p))); journal-is = w .keeps }

@@ -1,4 +1,4 @@
--- Set, remove, undo and redo on two lent buffers and three numbers (01, "Edits and the journal"). Assumes nothing.
+-- Set, remove, undo and redo on two lent buffers and three numbers (01, "Edits and the journal"; 02, A9). Assumes nothing.
 use Prim.Native.Nat.{ℕ, _+_, _-_}
 use mathlib.Core.Bool.{Bool, _&&_}
 use mathlib.Core.List.{List}
@@ -12,7 +12,8 @@ use Rattle.wellformed.specs.Check.{fileMost, check}
 use Rattle.wellformed.specs.WellFormed.{wellFormed}
 use Rattle.splice.specs.Edit.{Edit, spliced, turned, stands, bufferWith}
 use Rattle.change.specs.Change.{Request, editOf}
-use Rattle.journal.specs.Journal.{Journal, journalMost, editRecord, editLength, readJournal, nextOf}
+use Rattle.journal.specs.Journal.{Authored, by, Journal, journalMost, editRecord, editLength, nextOf}
+use Rattle.journal.specs.Lent.{Lent, lent, numbersFit, journalIn}
 
 -- what is lent: the file's buffer and length, the journal's buffer, bytes used and bytes standing
 pub record State : Type 0 where
@@ -26,32 +27,33 @@ pub record State : Type 0 where
 abbrev pub content : State → List ℕ
 content s = take (s .size) (s .file)
 
+-- the journal's part of what is lent
+abbrev pub journalOf : State → Lent
+journalOf s = lent (s .journal) (s .used) (s .standing)
+
 -- the numbers fit the buffers
 unfoldable pub lengthsFit : State → Bool
-lengthsFit s =
-    leb (s .size) (length (s .file)) && leb (s .used) (length (s .journal)) && leb (s .used) journalMost && leb (s .standing) (s .used)
+lengthsFit s = leb (s .size) (length (s .file)) && numbersFit (journalOf s)
 
 -- what every call asks first: lengths, the file's own faults, the journal
 unfoldable pub opened : State → Answer Journal
 opened s = do
   _ ← need (lengthsFit s) Damaged
   _ ← check (content s)
-  some-or (readJournal (take (s .used) (s .journal)) (s .standing)) Damaged
+  journalIn (journalOf s)
 
 -- the file fits its buffer
 abbrev pub fileFits : ℕ → List ℕ → Bool
 fileFits room file = leb (length file) room && leb (length file) fileMost
 
 -- the record fits the journal's buffer after what stands
-abbrev pub recordFits : ℕ → ℕ → Edit → Bool
+abbrev pub recordFits : ℕ → ℕ → Authored Edit → Bool
 recordFits room standing e = leb (standing + editLength e) room && leb (standing + editLength e) journalMost
 
--- set and remove: the record is written at standing, and both numbers are its end
-unfoldable pub request : State → Request → Answer State
-request s q = do
-  _ ← opened s
-  e ← editOf (content s) q
-  let file = spliced e (content s)
+-- an edit with its author: 11, then 13; else its record is written at standing, and both numbers are its end
+unfoldable pub applied : State → Authored Edit → Answer State
+applied s e = do
+  let file = spliced (e .what) (content s)
   _ ← need (fileFits (length (s .file)) file) NoRoom
   _ ← need (recordFits (length (s .journal)) (s .standing) e) JournalFull
   let end = s .standing + editLength e
@@ -62,6 +64,13 @@ request s q = do
     used = end;
     standing = end;
   })
+
+-- set and remove, with their author
+unfoldable pub request : State → Authored Request → Answer State
+request s q = do
+  _ ← opened s
+  e ← editOf (content s) (q .what)
+  applied s (by (q .author) e)
 
 -- the lent things after an edit from the journal, with another standing number
 unfoldable pub replayed : State → Edit → ℕ → Answer State
@@ -83,14 +92,14 @@ unfoldable pub undo : State → Answer State
 undo s = do
   j ← opened s
   e ← some-or (nextOf (j .stand)) NothingLeft
-  replayed s (turned e) (s .standing - editLength e)
+  replayed s (turned (e .what)) (s .standing - editLength e)
 
 -- redo: 12 if nothing waits; the next edit again, and its record stands
 unfoldable pub redo : State → Answer State
 redo s = do
   j ← opened s
   e ← some-or (nextOf (j .wait)) NothingLeft
-  replayed s e (s .standing + editLength e)
+  replayed s (e .what) (s .standing + editLength e)
 
 -- what is there as a call returns: a refusal changes nothing
 abbrev pub atExit : {A : Type 0} → A → Answer A → A

@@ -1,17 +1,15 @@
 -- What the functions of this crate answer, by the definitions of the four calls. Assumes nothing.
 use mathlib.Core.Path.{_≡_}
-use Prim.Native.Nat.{ℕ, _+_}
+use Prim.Native.Nat.{ℕ}
 use mathlib.Core.List.{List}
 use lib.ListN.{length}
-use Rattle.base.specs.Over.{over}
-use Rattle.fault.specs.declared.Fault.the-variants.{Damaged, NoRoom, JournalFull}
+use Rattle.fault.specs.declared.Fault.the-variants.{Damaged, NoRoom}
 use Rattle.fault.specs.Answer.{Answer, given, refused, _>>=_, need, then}
-use Rattle.record.specs.Record.{recordBytes}
 use Rattle.wellformed.specs.Check.{check}
 use Rattle.wellformed.specs.WellFormed.{wellFormed}
 use Rattle.splice.specs.Edit.{Edit, spliced, stands, bufferWith}
-use Rattle.journal.specs.Journal.{editRecord, editLength}
-use Rattle.edit.specs.Calls.{State, content, lengthsFit, fileFits, recordFits, atExit}
+use Rattle.journal.specs.Journal.{Author, by}
+use Rattle.edit.specs.Calls.{State, content, lengthsFit, fileFits, applied, atExit}
 use Rattle.edit.specs.declared.Edited.{Edited}
 use Rattle.edit.specs.declared.Edited.the-variants as edited
 use Rattle.edit.specs.declared.Replayed.{Replayed}
@@ -73,19 +71,9 @@ abbrev pub became : List ℕ → ℕ → Answer (List ℕ) → List ℕ
 became buffer size (given file) = bufferWith buffer size file
 became buffer size (refused f) = buffer
 
--- set and remove, once the edit is known
-unfoldable pub applied : State → Answer Edit → Answer State
-applied s a = do
-  e ← a
-  _ ← need (fileFits (length (s .file)) (spliced e (content s))) NoRoom
-  _ ← need (recordFits (length (s .journal)) (s .standing) e) JournalFull
-  given (record {
-    file = bufferWith (s .file) (s .size) (spliced e (content s));
-    size = length (spliced e (content s));
-    journal = over (s .journal) (s .standing) (recordBytes (editRecord e));
-    used = s .standing + editLength e;
-    standing = s .standing + editLength e;
-  })
+-- the edit of an author applied, or its refusal
+abbrev pub appliedBy : State → Author → Answer Edit → Answer State
+appliedBy s author a = a >>= λ e. applied s (by author e)
 
 -- a call that answers so and leaves these bytes in both buffers
 pub record Made (s : State) (a : Answer State) (r : Edited) (file journal : List ℕ) : Type 0 where

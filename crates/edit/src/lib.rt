@@ -13,7 +13,7 @@ ghost use Rattle.fault.specs.Answer.{given, then};
 ghost use Rattle.record.specs.Record.{recordBytes};
 ghost use Rattle.wellformed.specs.WellFormed.{wellFormed};
 ghost use Rattle.splice.specs.Edit.{replaced, bufferWith};
-ghost use Rattle.journal.specs.Journal.{editRecord};
+ghost use Rattle.journal.specs.Journal.{Person, by, editRecord};
 ghost use Rattle.change.specs.Change as request;
 ghost use Rattle.change.specs.Target as target;
 ghost use Rattle.edit.specs.Calls as calls;
@@ -49,24 +49,19 @@ fn ready(file: &[u8], size: usize, journal: &[u8], used: usize, standing: usize)
     if file.len() < size {
         return Checked::Refused(Fault::Damaged);
     }
-    if journal.len() < used {
-        return Checked::Refused(Fault::Damaged);
-    }
-    if 65536 < used {
-        return Checked::Refused(Fault::Damaged);
-    }
-    if used < standing {
+    if !journal::fits(journal, used, standing) {
         return Checked::Refused(Fault::Damaged);
     }
     wellformed::check(&file[..size])
 }
 
-// The record of an edit is written behind what stands, and its new bytes, so many, go from there into the file.
+// The record of a person's edit is written behind what stands, and its new bytes, so many, go from there into the file.
 fn write(
     file: &mut [u8],
     size: usize,
     journal: &mut [u8],
     standing: usize,
+    person: u16,
     place: usize,
     old: usize,
     key: &[u8],
@@ -75,14 +70,14 @@ fn write(
     n: usize,
 )
     requires { ⌜ (size ≤ length (now file)) × (place + old ≤ size) × (n ≡ length (target.newBytes (now key) (now text) t))
-        × (size - old + n ≤ length (now file)) × (standing + (18 + old + n) ≤ length (now journal)) ⌝ }
+        × (size - old + n ≤ length (now file)) × (standing + (20 + old + n) ≤ length (now journal)) ⌝ }
     ensures file { λ _. ⌜ now (file .exit) ≡ bufferWith (now (file .entry)) size (replaced place old (target.newBytes (now (key .entry)) (now (text .entry)) t) (take size (now (file .entry)))) ⌝ }
     ensures journal { λ _. ⌜ now (journal .exit) ≡ over (now (journal .entry)) standing
-        (recordBytes (editRecord (record { place = place; old = part place (place + old) (now (file .entry)); new = target.newBytes (now (key .entry)) (now (text .entry)) t }))) ⌝ }
+        (recordBytes (editRecord (by (Person person) (record { place = place; old = part place (place + old) (now (file .entry)); new = target.newBytes (now (key .entry)) (now (text .entry)) t })))) ⌝ }
 {
     let to = place + old;
-    journal::put_front(journal, standing, place, &file[place..to], n);
-    let from = standing + 18 + old;
+    journal::put_front(journal, standing, person, place, &file[place..to], n);
+    let from = standing + 20 + old;
     let end = change::put_new(journal, from, key, text, t);
     splice::replace(file, size, place, old, &journal[from..end]);
 }
@@ -93,6 +88,7 @@ fn make(
     size: usize,
     journal: &mut [u8],
     standing: usize,
+    person: u16,
     place: usize,
     old: usize,
     key: &[u8],
@@ -101,7 +97,7 @@ fn make(
 ) -> Edited
     requires { ⌜ (size ≤ length (now file)) × (size ≤ 32768) × (standing ≤ 65536) × (place + old ≤ size) ⌝ }
     ensures { λ r. ⌜ step.Made (step.lent (now (file .entry)) size (now (journal .entry)) 0 standing)
-        (step.applied (step.lent (now (file .entry)) size (now (journal .entry)) 0 standing)
+        (step.appliedBy (step.lent (now (file .entry)) size (now (journal .entry)) 0 standing) (Person person)
         (given (record { place = place; old = part place (place + old) (take size (now (file .entry))); new = target.newBytes (now (key .entry)) (now (text .entry)) t })))
         r (now (file .exit)) (now (journal .exit)) ⌝ }
 {
@@ -113,14 +109,26 @@ fn make(
     if 32768 < len {
         return Edited::Refused(Fault::NoRoom);
     }
-    let end = standing + (18 + old + n);
+    let end = standing + (20 + old + n);
     if journal.len() < end {
         return Edited::Refused(Fault::JournalFull);
     }
     if 65536 < end {
         return Edited::Refused(Fault::JournalFull);
     }
-    write(file, size, journal, standing, place, old, key, text, t, n);
+    write(
+        file,
+        size,
+        journal,
+        standing,
+        person,
+        place,
+        old,
+        key,
+        text,
+        t,
+        n,
+    );
     Edited::Done {
         size: len,
         used: end,
@@ -134,25 +142,48 @@ fn apply(
     size: usize,
     journal: &mut [u8],
     standing: usize,
+    person: u16,
     key: &[u8],
     text: &[u8],
     t: Target,
 ) -> Edited
     requires { ⌜ (size ≤ length (now file)) × (size ≤ 32768) × (standing ≤ 65536) × target.Inside size t ⌝ }
     ensures { λ r. ⌜ step.Made (step.lent (now (file .entry)) size (now (journal .entry)) 0 standing)
-        (step.applied (step.lent (now (file .entry)) size (now (journal .entry)) 0 standing)
+        (step.appliedBy (step.lent (now (file .entry)) size (now (journal .entry)) 0 standing) (Person person)
         (target.editBy (take size (now (file .entry))) (now (key .entry)) (now (text .entry)) t))
         r (now (file .exit)) (now (journal .exit)) ⌝ }
 {
     match t {
         Target::Value { from, to } => {
-            make(file, size, journal, standing, from, to - from, key, text, t)
+            make(
+                file,
+                size,
+                journal,
+                standing,
+                person,
+                from,
+                to - from,
+                key,
+                text,
+                t,
+            )
         }
         Target::Entry { at, after: _ } => {
-            make(file, size, journal, standing, at, 0, key, text, t)
+            make(file, size, journal, standing, person, at, 0, key, text, t)
         }
         Target::Line { from, to } => {
-            make(file, size, journal, standing, from, to - from, key, text, t)
+            make(
+                file,
+                size,
+                journal,
+                standing,
+                person,
+                from,
+                to - from,
+                key,
+                text,
+                t,
+            )
         }
         Target::Refused(f) => Edited::Refused(f),
     }
@@ -173,49 +204,51 @@ fn check_lent(file: &[u8], size: usize, journal: &[u8], used: usize, standing: u
     }
 }
 
-// A text for a key with its postfix in a group: replaced, or a new entry behind the group's last.
+// A person sets a key with its postfix in a group to a text: its value is replaced, or a new entry comes behind the group's last.
 pub fn set(
     file: &mut [u8],
     size: usize,
     journal: &mut [u8],
     used: usize,
     standing: usize,
+    person: u16,
     group: &[u8],
     key: &[u8],
     text: &[u8],
 ) -> Edited
     ensures { λ r. ⌜ step.Made (step.lent (now (file .entry)) size (now (journal .entry)) used standing)
-        (calls.request (step.lent (now (file .entry)) size (now (journal .entry)) used standing) (request.Set (now (group .entry)) (now (key .entry)) (now (text .entry))))
+        (calls.request (step.lent (now (file .entry)) size (now (journal .entry)) used standing) (by (Person person) (request.Set (now (group .entry)) (now (key .entry)) (now (text .entry)))))
         r (now (file .exit)) (now (journal .exit)) ⌝ }
 {
     match check_lent(file, size, journal, used, standing) {
         Checked::Refused(f) => Edited::Refused(f),
         Checked::Sound => {
             let t = change::set_target(&file[..size], group, key, text);
-            apply(file, size, journal, standing, key, text, t)
+            apply(file, size, journal, standing, person, key, text, t)
         }
     }
 }
 
-// The entry of a key with its postfix in a group goes with its line.
+// A person removes the entry of a key with its postfix in a group, with its line.
 pub fn remove(
     file: &mut [u8],
     size: usize,
     journal: &mut [u8],
     used: usize,
     standing: usize,
+    person: u16,
     group: &[u8],
     key: &[u8],
 ) -> Edited
     ensures { λ r. ⌜ step.Made (step.lent (now (file .entry)) size (now (journal .entry)) used standing)
-        (calls.request (step.lent (now (file .entry)) size (now (journal .entry)) used standing) (request.Remove (now (group .entry)) (now (key .entry))))
+        (calls.request (step.lent (now (file .entry)) size (now (journal .entry)) used standing) (by (Person person) (request.Remove (now (group .entry)) (now (key .entry)))))
         r (now (file .exit)) (now (journal .exit)) ⌝ }
 {
     match check_lent(file, size, journal, used, standing) {
         Checked::Refused(f) => Edited::Refused(f),
         Checked::Sound => {
             let t = change::remove_target(&file[..size], group, key, key);
-            apply(file, size, journal, standing, key, key, t)
+            apply(file, size, journal, standing, person, key, key, t)
         }
     }
 }
@@ -328,6 +361,7 @@ pub fn undo(file: &mut [u8], size: usize, journal: &[u8], used: usize, standing:
                 Next::Damaged => Edited::Refused(Fault::Damaged),
                 Next::Nothing => Edited::Refused(Fault::NothingLeft),
                 Next::Edit {
+                    start,
                     place,
                     old,
                     new,
@@ -335,7 +369,7 @@ pub fn undo(file: &mut [u8], size: usize, journal: &[u8], used: usize, standing:
                 } => {
                     let older = Part { from: old, to: new };
                     let newer = Part { from: new, to: end };
-                    again(file, size, edits, used, old - 18, place, newer, older)
+                    again(file, size, edits, used, start, place, newer, older)
                 }
             }
         }
@@ -356,6 +390,7 @@ pub fn redo(file: &mut [u8], size: usize, journal: &[u8], used: usize, standing:
                 Next::Damaged => Edited::Refused(Fault::Damaged),
                 Next::Nothing => Edited::Refused(Fault::NothingLeft),
                 Next::Edit {
+                    start: _,
                     place,
                     old,
                     new,

@@ -1,25 +1,36 @@
-// Examples of edits: the record's room, and one byte less; two sets in either order. Both buffers hold dots first.
+// Examples of edits: the record's room, and one byte less; two people's sets in either order; who made an edit. Both buffers hold dots first.
 use crate::report::quote;
 use crate::report::say;
 use crate::report::say_number;
 use crate::report::tell_edited;
+use crate::report::tell_named;
 use edit::Edited;
 ghost use Prim.Native.Nat.{_≤_};
 ghost use lib.ListN.{length};
 
 fn set_name_into(size: usize, file: &mut [u8], journal: &mut [u8]) {
-    say(b"set \"Name\" of T to \"Les\" with a journal of ");
+    say(b"set \"Name\" of T to \"Les\" by 258 with a journal of ");
     say_number(journal.len());
     say(b" bytes");
-    let e = edit::set(file, size, journal, 0, 0, b"Desktop Entry", b"Name", b"Les");
+    let e = edit::set(
+        file,
+        size,
+        journal,
+        0,
+        0,
+        258,
+        b"Desktop Entry",
+        b"Name",
+        b"Les",
+    );
     tell_edited(e, file, journal);
 }
 
 fn set_name(t: &[u8], room: usize)
-    requires { ⌜ (length (now t) ≤ 72) × (room ≤ 27) ⌝ }
+    requires { ⌜ (length (now t) ≤ 72) × (room ≤ 29) ⌝ }
 {
     let mut file = [b'.'; 72];
-    let mut journal = [b'.'; 27];
+    let mut journal = [b'.'; 29];
     splice::write(&mut file, 0, t);
     set_name_into(t.len(), &mut file, &mut journal[0..room]);
 }
@@ -27,9 +38,9 @@ fn set_name(t: &[u8], room: usize)
 pub fn sets(t: &[u8])
     requires { ⌜ length (now t) ≤ 72 ⌝ }
 {
+    set_name(t, 29);
+    set_name(t, 28);
     set_name(t, 27);
-    set_name(t, 26);
-    set_name(t, 25);
 }
 
 fn say_sets(key: &[u8], text: &[u8], next: &[u8], next_text: &[u8]) {
@@ -37,10 +48,11 @@ fn say_sets(key: &[u8], text: &[u8], next: &[u8], next_text: &[u8]) {
     quote(key);
     say(b" of T to ");
     quote(text);
-    say(b", then ");
+    say(b" by 1, then ");
     quote(next);
     say(b" to ");
     quote(next_text);
+    say(b" by 2");
 }
 
 // A set after one that is done.
@@ -56,6 +68,7 @@ fn set_next(first: Edited, file: &mut [u8], journal: &mut [u8], key: &[u8], text
             journal,
             used,
             standing,
+            2,
             b"Desktop Entry",
             key,
             text,
@@ -73,7 +86,7 @@ fn set_in_turn(
     next: &[u8],
     next_text: &[u8],
 ) {
-    let first = edit::set(file, size, journal, 0, 0, b"Desktop Entry", key, text);
+    let first = edit::set(file, size, journal, 0, 0, 1, b"Desktop Entry", key, text);
     let both = set_next(first, file, journal, next, next_text);
     tell_edited(both, file, journal);
 }
@@ -82,7 +95,7 @@ fn set_both(t: &[u8], key: &[u8], text: &[u8], next: &[u8], next_text: &[u8])
     requires { ⌜ length (now t) ≤ 84 ⌝ }
 {
     let mut file = [b'.'; 84];
-    let mut journal = [b'.'; 52];
+    let mut journal = [b'.'; 56];
     splice::write(&mut file, 0, t);
     say_sets(key, text, next, next_text);
     set_in_turn(t.len(), &mut file, &mut journal, key, text, next, next_text);
@@ -96,4 +109,54 @@ pub fn orders(t: &[u8])
     set_both(t, b"Exec", b"v", b"Name", b"Les");
     set_both(t, b"Icon", b"a", b"URL", b"b");
     set_both(t, b"URL", b"b", b"Icon", b"a");
+}
+
+fn ask_person(journal: &[u8], used: usize, standing: usize, n: usize) {
+    say(b"person of record ");
+    say_number(n);
+    say(b" in ");
+    say_number(used);
+    say(b" bytes, of which stand ");
+    say_number(standing);
+    tell_named(journal::person(journal, used, standing, n));
+}
+
+fn ask_persons(file: &mut [u8], journal: &mut [u8]) {
+    say(b"set \"Exec\" to \"v\" by 7 behind a record of kind 1");
+    let e = edit::set(
+        file,
+        69,
+        journal,
+        26,
+        26,
+        7,
+        b"Desktop Entry",
+        b"Exec",
+        b"v",
+    );
+    tell_edited(e, file, journal);
+    ask_person(journal, 54, 54, 0);
+    ask_person(journal, 54, 54, 1);
+    ask_person(journal, 54, 26, 1);
+    ask_person(journal, 54, 54, 2);
+    ask_person(journal, 54, 27, 2);
+    ask_person(journal, 53, 26, 0);
+    ask_person(journal, 56, 54, 0);
+}
+
+// A journal that 01's set of Name in T left, and an edit by a person behind it.
+pub fn persons() {
+    let mut file = [b'.'; 72];
+    let mut journal = [b'.'; 55];
+    splice::write(
+        &mut file,
+        0,
+        b"[Desktop Entry]\nType=Application\nName=Les\nName[fr]=Lire\nExec=view %F\n",
+    );
+    splice::write(
+        &mut journal,
+        0,
+        b"\x1a\0\0\0\x01\0&\0\0\0\x05\0\0\0\x03\0\0\0LesenLes",
+    );
+    ask_persons(&mut file, &mut journal);
 }

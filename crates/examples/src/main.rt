@@ -3,7 +3,7 @@ mod report; // report.rt: the words of the report
 mod files; // files.rt: the check and completeness
 mod values; // values.rt: lookup and the choice of language
 mod texts; // texts.rt: text and value lists
-mod edits; // edits.rt: set, with room in the journal and without; two in either order
+mod edits; // edits.rt: set, with room in the journal and without; two in either order; who made an edit
 mod commands; // commands.rt: the expansion of Exec
 
 fn main() {
@@ -23,6 +23,7 @@ fn main() {
     texts::lists_read();
     edits::sets(t);
     edits::orders(t);
+    edits::persons();
     commands::expansions(t);
     commands::commands_read();
 }

@@ -2,6 +2,7 @@
 use edit::Edited;
 use entry::Ends;
 use fault::Fault;
+use journal::Named;
 use libc::STDOUT_FILENO;
 use text::Written;
 use wellformed::Checked;
@@ -147,5 +148,17 @@ pub fn tell_edited(e: Edited, file: &[u8], journal: &[u8]) {
     quote(file);
     say(b",");
     spaced_bytes(journal);
+    say(b"\n");
+}
+
+// The answer of the call for a person.
+pub fn tell_named(n: Named) {
+    match n {
+        Named::Person(p) => {
+            say(b": ");
+            say_number(p as usize);
+        }
+        Named::Refused(f) => say_refused(f),
+    }
     say(b"\n");
 }

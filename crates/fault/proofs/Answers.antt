@@ -18,6 +18,10 @@ pub some-given : {A B : Type 0} (o : Option A) (f : Fault) (k : A → Answer B) 
 some-given (some a) f k b e = (a, refl, e)
 some-given none f k b e = no (cc)
 
+pub some-is : {A : Type 0} (o : Option A) (f : Fault) (a : A) → some-or o f ≡ given a → o ≡ some a
+some-is (some b) f a e = cc
+some-is none f a e = no (cc)
+
 pub unless-refused : (o : Option Fault) (f : Fault) → unless o ≡ refused f → o ≡ some f
 unless-refused none f e = no (cc)
 unless-refused (some g) f e = cc

@@ -1,25 +1,25 @@
 -- The edits of some bytes, record by record. Assumes nothing.
 use mathlib.Core.Path.{_≡_, refl, sym, _∙_}
-use mathlib.Core.Bool.{Bool, true, false, _&&_}
+use mathlib.Core.Bool.{Bool, true, false}
 use mathlib.Core.Option.{Option, none, some, Option·map}
 use mathlib.Core.List.{List, [], _∷_}
 use Prim.Native.Nat.{ℕ, _+_, _≤_, _<_}
 use native.Mathlib.Omega.{arith}
 use borrow.Author.Tests.{eqb-true, leb-true, leb-false}
-use lib.ListN.{length, drop, length-drop}
+use lib.ListN.{length, take, drop, length-drop}
 use lib.Seq.{drop-drop}
 use lib.Dec.{eqb, leb}
 use Rattle.base.specs.Choice.{pick, maybe}
 use Rattle.base.specs.Lists.{part}
 use Rattle.base.proofs.Lists.{length-part}
 use Rattle.base.proofs.Scan.{done}
-use Rattle.base.proofs.Tests.{no, by-test, and-both}
+use Rattle.base.proofs.Tests.{no, by-test}
 use Rattle.record.specs.Number.{numberOf}
 use Rattle.record.specs.Record.{Rec, recordLength, lengthAt, recordAt, whole, cut}
 use Rattle.record.proofs.Place.{whole-bounds}
 use Rattle.record.proofs.Cut.{cut-none, cut-step, cut-damaged-at}
 use Rattle.splice.specs.Edit.{Edit}
-use Rattle.journal.specs.Journal.{editLength, readEdit, readEdits, nextOf}
+use Rattle.journal.specs.Journal.{NoPerson, Person, Authored, by, editLength, editIn, readEdit, readEdits, nextOf, partedAt, readJournal}
 use Rattle.journal.specs.Walk.{editAt, edits, Follows}
 
 -- a choice that gave something passed its test
@@ -27,15 +27,30 @@ picked : {A : Type 0} (t : Bool) {x y : A} → pick t (some x) none ≡ some y �
 picked true h = (refl, cc)
 picked false h = no (cc)
 
+-- what was made of something that there is
+pub mapped : {A B : Type 0} (f : A → B) (o : Option A) {b : B} → Option·map f o ≡ some b → (a : A) × (o ≡ some a) × (f a ≡ b)
+mapped f none h = no (cc)
+mapped f (some a) h = (a, refl, cc)
+
 -- an edit is as long as its record
-read-length : (r : Rec) {e : Edit} → readEdit r ≡ some e → editLength e ≡ recordLength (r .body)
+in-length : (s : List ℕ) {e : Edit} → editIn s ≡ some e → 12 + length (e .old) + length (e .new) ≡ length s
+unfolding editIn
+in-length s h =
+    let old : ℕ = numberOf (part 4 8 s) in
+    let new : ℕ = numberOf (part 8 12 s) in
+    let p = picked (eqb (length s) (12 + old + new)) h in
+    let n : length s ≡ 12 + old + new = eqb-true _ _ (p .0) in
+    rw (← p .1, length-drop) (omega (arith, length-part 12 (12 + old) s (omega arith)))
+
+pub read-length : (r : Rec) {e : Authored Edit} → readEdit r ≡ some e → editLength e ≡ recordLength (r .body)
 unfolding readEdit
-read-length r h =
-    let old : ℕ = numberOf (part 4 8 (r .body)) in
-    let new : ℕ = numberOf (part 8 12 (r .body)) in
-    let p = picked (eqb (r .kind) 1 && eqb (recordLength (r .body)) (18 + old + new)) h in
-    let n : recordLength (r .body) ≡ 18 + old + new = eqb-true _ _ (and-both (eqb (r .kind) 1) (eqb (recordLength (r .body)) (18 + old + new)) (p .0) .1) in
-    rw (← p .1, length-drop) (omega (arith, length-part 12 (12 + old) (r .body) (omega arith)))
+read-length r {e} h =
+    by-test (eqb (r .kind) 1)
+    (λ t. let m = mapped (by NoPerson) (editIn (r .body)) (rw t at h) in rw (← m .2) (omega (arith, in-length (r .body) (m .1))))
+    (λ t. by-test (eqb (r .kind) 4)
+    (λ u. let m = mapped (by (Person (numberOf (take 2 (r .body))))) (editIn (drop 2 (r .body))) (rw (t, u) at h) in
+    rw (← m .2) (omega (arith, in-length (drop 2 (r .body)) (m .1), length-drop 2 (r .body))))
+    (λ u. let z : none ≡ some e = rw (t, u) at h in no (cc)))
 
 -- a whole record with an edit, before others
 first-none : (r : Rec) (o : Option (List Rec)) → readEdit r ≡ none → maybe (Option·map (λ rs. r ∷ rs) o) none readEdits ≡ none
@@ -43,13 +58,13 @@ unfolding readEdits
 first-none r none h = refl
 first-none r (some rs) h = rw h
 
-first-some : (r : Rec) (o : Option (List Rec)) {e : Edit} → readEdit r ≡ some e
+first-some : (r : Rec) (o : Option (List Rec)) {e : Authored Edit} → readEdit r ≡ some e
     → maybe (Option·map (λ rs. r ∷ rs) o) none readEdits ≡ Option·map (λ es. e ∷ es) (maybe o none readEdits)
 unfolding readEdits
 first-some r none h = refl
 first-some r (some rs) h = rw h
 
-head-of : (e : Edit) (o : Option (List Edit)) {es : List Edit} → Option·map (λ fs. e ∷ fs) o ≡ some es → nextOf es ≡ some e
+head-of : (e : Authored Edit) (o : Option (List (Authored Edit))) {es : List (Authored Edit)} → Option·map (λ fs. e ∷ fs) o ≡ some es → nextOf es ≡ some e
 head-of e none h = no (cc)
 head-of e (some fs) {es} h = let z : e ∷ fs ≡ es = cc in rw (← z)
 
@@ -72,7 +87,7 @@ module _ (s : List ℕ) (at : ℕ) where
       (λ w. rw (cut-damaged-at s at h w))
 
   -- an edit, and those behind its record
-  pub edits-step : {e : Edit} → editAt s at ≡ some e → edits (drop at s) ≡ Option·map (λ es. e ∷ es) (edits (drop (at + editLength e) s))
+  pub edits-step : {e : Authored Edit} → editAt s at ≡ some e → edits (drop at s) ≡ Option·map (λ es. e ∷ es) (edits (drop (at + editLength e) s))
   unfolding edits editAt
   edits-step {e} h =
       by-test (whole (drop at s))
@@ -84,12 +99,21 @@ module _ (s : List ℕ) (at : ℕ) where
       (λ w. let z : none ≡ some e = rw w at h in no (cc))
 
   -- the first of them
-  pub edits-first : (es : List Edit) → edits (drop at s) ≡ some es → Follows s at (nextOf es)
+  pub edits-first : (es : List (Authored Edit)) → edits (drop at s) ≡ some es → Follows s at (nextOf es)
   edits-first es h =
       by-test (leb (length s) at)
       (λ t. let l = leb-true _ _ t in let z : es ≡ [] = cc (edits-done l) in rw z l)
       (λ t. go (editAt s at) refl (leb-false _ _ t))
     where
-      go : (o : Option Edit) → editAt s at ≡ o → at < length s → Follows s at (nextOf es)
+      go : (o : Option (Authored Edit)) → editAt s at ≡ o → at < length s → Follows s at (nextOf es)
       go none e l = no (cc (edits-damaged l e))
       go (some f) e l = rw (head-of f (edits (drop (at + editLength f) s)) (sym (edits-step e) ∙ h)) e
+
+-- a journal by the edits of its bytes
+pub journal-by : (s : List ℕ) (standing : ℕ) → readJournal s standing ≡ maybe (edits s) none (partedAt standing [])
+unfolding readJournal edits
+journal-by s standing = go (cut s)
+  where
+    go : (o : Option (List Rec)) → maybe o none (λ rs. maybe (readEdits rs) none (partedAt standing [])) ≡ maybe (maybe o none readEdits) none (partedAt standing [])
+    go none = refl
+    go (some rs) = refl

@@ -4,3 +4,6 @@ pub mod Edits
 pub mod Walking
 pub mod Answers
 pub mod Front
+pub mod Numbers
+pub mod Joined
+pub mod Persons

@@ -1,38 +1,85 @@
 -- The edit in the record at a place: none, or its numbers and where its bytes stand. Assumes nothing.
 use mathlib.Core.Path.{_≡_, refl, sym, ap, _∙_}
-use mathlib.Core.Bool.{false, and-false}
-use mathlib.Core.Option.{none, some}
+use mathlib.Core.Bool.{false}
+use mathlib.Core.Option.{none, some, Option·map}
 use mathlib.Core.List.{List}
 use Prim.Native.Nat.{ℕ, _+_, _-_, _≤_, _<_}
 use native.Mathlib.Omega.{arith}
 use borrow.Author.Tests.{eq-eqb, ne-eqb}
-use lib.ListN.{take, drop}
+use lib.ListN.{length, take, drop, length-drop}
 use Rattle.base.specs.Lists.{part}
 use Rattle.base.proofs.Lists.{length-part}
 use Rattle.base.proofs.Parts.{drop-part, take-part, part-part}
 use Rattle.record.specs.Number.{numberOf}
-use Rattle.record.specs.Record.{Rec, recordLength, whole}
+use Rattle.record.specs.Record.{Rec, whole}
 use Rattle.record.proofs.Place.{Stands}
 use Rattle.record.proofs.Cut.{body-at}
-use Rattle.journal.specs.Journal.{readEdit}
-use Rattle.journal.specs.Walk.{editAt, Holds}
+use Rattle.journal.specs.Journal.{Author, NoPerson, Person, by, frontLength, editIn, readEdit}
+use Rattle.journal.specs.Walk.{editAt, ReadsBytes, Reads}
+use Rattle.journal.specs.declared.Next.{Next}
+use Rattle.journal.specs.declared.Next.the-variants as next
 
 -- ---- a record
 
 module _ (r : Rec) where
-  -- another kind, and another length than its numbers say
-  read-other : (r .kind ≡ 1 → ⊥) → readEdit r ≡ none
+  -- another kind
+  read-other : (r .kind ≡ 1 → ⊥) → (r .kind ≡ 4 → ⊥) → readEdit r ≡ none
   unfolding readEdit
-  read-other n = rw (ne-eqb _ _ n)
+  read-other n m = rw (ne-eqb _ _ n, ne-eqb _ _ m)
 
-  read-unlike : (recordLength (r .body) ≡ 18 + numberOf (part 4 8 (r .body)) + numberOf (part 8 12 (r .body)) → ⊥) → readEdit r ≡ none
+  -- each of the two kinds
+  read-bare : r .kind ≡ 1 → readEdit r ≡ Option·map (by NoPerson) (editIn (r .body))
   unfolding readEdit
-  read-unlike n = simp (ne-eqb _ _ n, and-false)
+  read-bare k = rw (eq-eqb _ _ k)
 
-  read-this : {old new : ℕ} → r .kind ≡ 1 → numberOf (part 4 8 (r .body)) ≡ old → numberOf (part 8 12 (r .body)) ≡ new → recordLength (r .body) ≡ 18 + old + new
-      → readEdit r ≡ some (record { place = numberOf (take 4 (r .body)); old = part 12 (12 + old) (r .body); new = drop (12 + old) (r .body) })
+  read-person : r .kind ≡ 4 → readEdit r ≡ Option·map (by (Person (numberOf (take 2 (r .body))))) (editIn (drop 2 (r .body)))
   unfolding readEdit
-  read-this k o n l = rw (o, n, eq-eqb _ _ k, eq-eqb _ _ l)
+  read-person k = rw k
+
+-- ---- an edit's bytes
+
+module _ (s : List ℕ) where
+  -- another length than its numbers say
+  in-unlike : (length s ≡ 12 + numberOf (part 4 8 s) + numberOf (part 8 12 s) → ⊥) → editIn s ≡ none
+  unfolding editIn
+  in-unlike n = rw (ne-eqb _ _ n)
+
+  in-this : {old new : ℕ} → numberOf (part 4 8 s) ≡ old → numberOf (part 8 12 s) ≡ new → length s ≡ 12 + old + new
+      → editIn s ≡ some (record { place = numberOf (take 4 s); old = part 12 (12 + old) s; new = drop (12 + old) s })
+  unfolding editIn
+  in-this o n l = rw (o, n, eq-eqb _ _ l)
+
+-- from a place up to another
+module _ (s : List ℕ) (from end : ℕ) (a : from ≤ end) (b : end ≤ length s) where
+  length-bytes : length (part from end s) ≡ end - from
+  length-bytes = length-part from end s b
+
+  -- the four bytes from a place on
+  four-at : (n k : ℕ) → k ≡ from + n → k + 4 ≤ end → take 4 (drop n (part from end s)) ≡ take 4 (drop k s)
+  four-at n k e h = rw (drop-part n from end s, ← e) (take-part 4 k end s h)
+
+  pub bytes-short : end - from < 12 → editIn (part from end s) ≡ none
+  bytes-short h = in-unlike (part from end s) (λ e. omega (arith, length-bytes, e))
+
+  module _ {old new : ℕ} (long : 12 ≤ end - from) (o : old ≡ numberOf (take 4 (drop (from + 4) s))) (n : new ≡ numberOf (take 4 (drop (from + 8) s))) where
+    old-at : numberOf (part 4 8 (part from end s)) ≡ old
+    old-at = ap numberOf (four-at 4 (from + 4) refl (omega arith)) ∙ sym o
+
+    new-at : numberOf (part 8 12 (part from end s)) ≡ new
+    new-at = ap numberOf (four-at 8 (from + 8) refl (omega arith)) ∙ sym n
+
+    pub bytes-unlike : (end - from ≡ 12 + old + new → ⊥) → editIn (part from end s) ≡ none
+    bytes-unlike d = in-unlike (part from end s) (λ e. d (omega (arith, length-bytes, e, old-at, new-at)))
+
+    pub bytes-read : {place : ℕ} → end - from ≡ 12 + old + new → place ≡ numberOf (take 4 (drop from s))
+        → editIn (part from end s) ≡ some (record { place = place; old = part (from + 12) (from + 12 + old) s; new = part (from + 12 + old) end s })
+    bytes-read l p =
+        let z : from ≡ from + 0 = omega arith in
+        let q = ap numberOf (four-at 0 from z (omega arith)) ∙ sym p in
+        let x = part-part 12 (12 + old) from end s (omega arith) in
+        let y = drop-part (12 + old) from end s in
+        let m : from + (12 + old) ≡ from + 12 + old = omega arith in
+        in-this (part from end s) old-at new-at (length-bytes ∙ l) ∙ rw (q, x, y, m)
 
 -- ---- at a place
 
@@ -41,49 +88,34 @@ unfolding editAt
 no-edit s at e = rw e
 
 module _ {s : List ℕ} {at kind end : ℕ} (r : Stands s at kind end) where
-  abbrev bodyAt : List ℕ
-  bodyAt = part (at + 6) end s
-
-  edit-there : editAt s at ≡ readEdit (record { kind = kind; body = bodyAt })
+  edit-there : editAt s at ≡ readEdit (record { kind = kind; body = part (at + 6) end s })
   unfolding editAt
   edit-there = rw (r .is-whole, body-at r, ← r .has-kind)
 
-  length-body : recordLength bodyAt ≡ end - at
-  length-body = omega (arith, length-part (at + 6) end s (r .inside), r .head-inside)
+  pub edit-other : (kind ≡ 1 → ⊥) → (kind ≡ 4 → ⊥) → editAt s at ≡ none
+  edit-other n m = edit-there ∙ read-other _ n m
 
-  -- the four bytes from a place of the body on
-  four-at : (n k : ℕ) → k ≡ at + 6 + n → k + 4 ≤ end → take 4 (drop n bodyAt) ≡ take 4 (drop k s)
-  four-at n k e h = rw (drop-part n (at + 6) end s, ← e) (take-part 4 k end s h)
+  pub edit-bare : kind ≡ 1 → editAt s at ≡ Option·map (by NoPerson) (editIn (part (at + 6) end s))
+  edit-bare k = edit-there ∙ read-bare _ k
 
-  pub edit-other : (kind ≡ 1 → ⊥) → editAt s at ≡ none
-  edit-other n = edit-there ∙ read-other _ n
+  pub edit-person : kind ≡ 4 → at + 8 ≤ end → editAt s at ≡ Option·map (by (Person (numberOf (take 2 (drop (at + 6) s))))) (editIn (part (at + 8) end s))
+  edit-person k h =
+      let z : at + 6 + 2 ≡ at + 8 = omega arith in
+      edit-there ∙ read-person _ k ∙ rw (take-part 2 (at + 6) end s (omega arith), drop-part 2 (at + 6) end s, z)
 
-  pub edit-short : end - at < 18 → editAt s at ≡ none
-  edit-short h = edit-there ∙ read-unlike _ (λ e. omega (arith, length-body, e))
+  -- no room for the person's two bytes
+  pub edit-stub : kind ≡ 4 → end < at + 8 → editAt s at ≡ none
+  edit-stub k h =
+      let b : List ℕ = part (at + 6) end s in
+      let n = in-unlike (drop 2 b) (λ e. omega (arith, e, length-drop 2 b, length-part (at + 6) end s (r .inside), r .head-inside)) in
+      edit-there ∙ read-person _ k ∙ ap (Option·map (by (Person (numberOf (take 2 b))))) n
 
-  module _ {old new : ℕ} (long : 18 ≤ end - at) (o : old ≡ numberOf (take 4 (drop (at + 10) s))) (n : new ≡ numberOf (take 4 (drop (at + 14) s))) where
-    old-at : numberOf (part 4 8 bodyAt) ≡ old
-    old-at = ap numberOf (four-at 4 (at + 10) (omega arith) (omega arith)) ∙ sym o
-
-    new-at : numberOf (part 8 12 bodyAt) ≡ new
-    new-at = ap numberOf (four-at 8 (at + 14) (omega arith) (omega arith)) ∙ sym n
-
-    pub edit-unlike : (end - at ≡ 18 + old + new → ⊥) → editAt s at ≡ none
-    edit-unlike d = edit-there ∙ read-unlike _ (λ e. d (omega (arith, length-body, e, old-at, new-at)))
-
-    pub edit-read : {place : ℕ} → kind ≡ 1 → end - at ≡ 18 + old + new → place ≡ numberOf (take 4 (drop (at + 6) s))
-        → Holds s at place (at + 18) (at + 18 + old) end
-    edit-read k l p =
-        let h = r .inside in
-        let a : at + 6 + 12 ≡ at + 18 = omega arith in
-        let b : at + 6 + (12 + old) ≡ at + 18 + old = omega arith in
-        let q = ap numberOf (four-at 0 (at + 6) (omega arith) (omega arith)) ∙ sym p in
-        let x = part-part 12 (12 + old) (at + 6) end s (omega arith) in
-        let y = drop-part (12 + old) (at + 6) end s in
-        record {
-          edit = edit-there ∙ read-this _ k old-at new-at (length-body ∙ l) ∙ rw (q, x, y, a, b);
-          head = refl;
-          old-bytes = omega arith;
-          new-bytes = omega arith;
-          inside = h;
-        }
+  -- what is read of the edit's bytes, by its author
+  pub reads-by : (author : Author) (from : ℕ) → editAt s at ≡ Option·map (by author) (editIn (part from end s)) → from + 12 ≡ at + frontLength author
+      → (x : Next) → ReadsBytes s at from end x → Reads s at x
+  reads-by author from e h next.Damaged w = (omega (arith, r .head-inside, r .inside), e ∙ ap (Option·map (by author)) w)
+  reads-by author from e h next.Nothing w = absurd w
+  reads-by author from e h (next.Edit start place old new end₁) (a, b, w, head, o, n) = (
+    a,
+    record { author = author; edit = e ∙ ap (Option·map (by author)) w; head = omega arith; old-bytes = o; new-bytes = n; inside = omega (arith, r .inside) },
+  )

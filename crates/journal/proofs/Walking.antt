@@ -12,25 +12,29 @@ use Rattle.base.specs.Choice.{maybe, there}
 use Rattle.base.specs.Lists.{part}
 use Rattle.base.proofs.Lists.{length-part}
 use Rattle.base.proofs.Tests.{no}
-use Rattle.record.specs.Record.{Rec, cut}
 use Rattle.splice.specs.Edit.{Edit}
-use Rattle.journal.specs.Journal.{editLength, readEdits, partedAt, readJournal, nextOf}
+use Rattle.journal.specs.Journal.{Authored, by, editLength, partedAt, readJournal, nextOf}
 use Rattle.journal.specs.Walk.{editAt, Holds, edits, Latest, Parted}
-use Rattle.journal.proofs.Edits.{edits-done, edits-damaged, edits-step, edits-first}
+use Rattle.journal.proofs.Records.{front-least, parted-here}
+use Rattle.journal.proofs.Edits.{journal-by, edits-done, edits-damaged, edits-step, edits-first}
 
 -- ---- a record that was read
 
--- the edit that an answer names
-abbrev pub named : List ℕ → (place old new end : ℕ) → Edit
-named s place old new end = record { place = place; old = part old new s; new = part new end s }
-
 module _ {s : List ℕ} {at place old new end : ℕ} (r : Holds s at place old new end) where
-  pub named-length : at + editLength (named s place old new end) ≡ end
-  named-length = omega (arith, length-part old new s (omega arith), length-part new end s (omega arith))
+  -- the edit that an answer names, and its author
+  abbrev pub authored : Authored Edit
+  authored = by (r .author) (record { place = place; old = part old new s; new = part new end s })
+
+  pub authored-length : at + editLength authored ≡ end
+  authored-length = omega (arith, r .head, length-part old new s (omega (arith, r .new-bytes, r .inside)), length-part new end s (r .inside), r .old-bytes, r .new-bytes)
+
+  -- it is not empty
+  pub further : at < end
+  further = omega (arith, authored-length, front-least (r .author))
 
   -- those from its end on are left
-  pub edits-behind : edits (drop at s) ≡ Option·map (λ es. named s place old new end ∷ es) (edits (drop end s))
-  edits-behind = edits-step s at (r .edit) ∙ rw named-length
+  pub edits-behind : edits (drop at s) ≡ Option·map (λ es. authored ∷ es) (edits (drop end s))
+  edits-behind = edits-step s at (r .edit) ∙ rw authored-length
 
 -- ---- whether records of edits fill the bytes from a place on
 
@@ -59,41 +63,31 @@ module _ {s : List ℕ} {from at : ℕ} (w : Filling s from at) where
 
 -- the edits up to a place stand, and those from there on decide
 pub record Walking (s : List ℕ) (standing at last : ℕ) : Type 0 where
-  pub stand : List Edit
+  pub stand : List (Authored Edit)
   pub below : at ≤ standing
   pub same : readJournal s standing ≡ maybe (edits (drop at s)) none (partedAt (standing - at) stand)
   pub top : Latest s last at (nextOf stand)
 
 pub walk-begin : (s : List ℕ) (standing : ℕ) → Walking s standing 0 0
-unfolding readJournal edits
-walk-begin s standing = record { stand = []; below = omega arith; same = rw sub-zero (go (cut s)); top = refl }
-  where
-    go : (o : Option (List Rec)) → maybe o none (λ rs. maybe (readEdits rs) none (partedAt standing [])) ≡ maybe (maybe o none readEdits) none (partedAt standing [])
-    go none = refl
-    go (some rs) = refl
+walk-begin s standing = record { stand = []; below = omega arith; same = rw sub-zero (journal-by s standing); top = refl }
 
 -- one edit more, within the bytes that stand or beyond them
-parted-next : (n : ℕ) (stand : List Edit) (e : Edit) (o : Option (List Edit)) → editLength e ≤ n
+parted-next : (n : ℕ) (stand : List (Authored Edit)) (e : Authored Edit) (o : Option (List (Authored Edit))) → editLength e ≤ n
     → maybe (Option·map (λ es. e ∷ es) o) none (partedAt n stand) ≡ maybe o none (partedAt (n - editLength e) (e ∷ stand))
 unfolding partedAt
 parted-next n stand e none h = refl
-parted-next n stand e (some es) h = rw (ne-eqb n 0 (λ z. omega arith), le-leb _ _ h)
+parted-next n stand e (some es) h = rw (ne-eqb n 0 (λ z. omega (arith, front-least (e .author))), le-leb _ _ h)
 
-parted-beyond : (n : ℕ) (stand : List Edit) (e : Edit) (o : Option (List Edit)) → 0 < n → n < editLength e
+parted-beyond : (n : ℕ) (stand : List (Authored Edit)) (e : Authored Edit) (o : Option (List (Authored Edit))) → 0 < n → n < editLength e
     → maybe (Option·map (λ es. e ∷ es) o) none (partedAt n stand) ≡ none
 unfolding partedAt
 parted-beyond n stand e none p h = refl
 parted-beyond n stand e (some es) p h = rw (ne-eqb n 0 (λ z. omega arith), lt-leb _ _ h)
 
--- no more edits, though some bytes of records stand; and no more bytes that stand
-parted-short : (n : ℕ) (stand : List Edit) → 0 < n → partedAt n stand [] ≡ none
+-- no more edits, though some bytes of records stand
+parted-short : (n : ℕ) (stand : List (Authored Edit)) → 0 < n → partedAt n stand [] ≡ none
 unfolding partedAt
 parted-short n stand p = rw (ne-eqb n 0 (λ z. omega arith))
-
-parted-end : (stand es : List Edit) → partedAt 0 stand es ≡ some (record { stand = stand; wait = es })
-unfolding partedAt
-parted-end stand [] = refl
-parted-end stand (e ∷ es) = refl
 
 module _ {s : List ℕ} {standing at last : ℕ} (w : Walking s standing at last) where
   pub walk-damaged : at < length s → editAt s at ≡ none → readJournal s standing ≡ none
@@ -105,12 +99,12 @@ module _ {s : List ℕ} {standing at last : ℕ} (w : Walking s standing at last
   module _ {place old new end : ℕ} (r : Holds s at place old new end) where
     pub walk-beyond : at < standing → standing < end → readJournal s standing ≡ none
     walk-beyond h k =
-        w .same ∙ rw (edits-behind r) (parted-beyond (standing - at) (w .stand) (named s place old new end) (edits (drop end s)) (omega arith) (omega (arith, named-length r)))
+        w .same ∙ rw (edits-behind r) (parted-beyond (standing - at) (w .stand) (authored r) (edits (drop end s)) (omega arith) (omega (arith, authored-length r)))
 
     pub walk-next : end ≤ standing → Walking s standing end at
     walk-next k =
-        let e : Edit = named s place old new end in
-        let l = named-length r in
+        let e : Authored Edit = authored r in
+        let l = authored-length r in
         let n : standing - at - editLength e ≡ standing - end = omega arith in
         record {
           stand = e ∷ w .stand;
@@ -128,7 +122,7 @@ module _ {s : List ℕ} {standing at last : ℕ} (w : Walking s standing at last
   pub walk-unsound : standing ≤ at → false ≡ there (edits (drop standing s)) → readJournal s standing ≡ none
   walk-unsound h = go (edits (drop standing s)) (walk-left h)
     where
-      go : (o : Option (List Edit)) → readJournal s standing ≡ maybe o none (partedAt 0 (w .stand)) → false ≡ there o → readJournal s standing ≡ none
+      go : (o : Option (List (Authored Edit))) → readJournal s standing ≡ maybe o none (partedAt 0 (w .stand)) → false ≡ there o → readJournal s standing ≡ none
       go none l f = l
       go (some es) l f = no (cc)
 
@@ -138,12 +132,12 @@ module _ {s : List ℕ} {standing at last : ℕ} (w : Walking s standing at last
       e : at ≡ standing
       e = omega (arith, w .below)
 
-      go : (o : Option (List Edit)) → edits (drop standing s) ≡ o → readJournal s standing ≡ maybe o none (partedAt 0 (w .stand)) → true ≡ there o → Parted s standing last
+      go : (o : Option (List (Authored Edit))) → edits (drop standing s) ≡ o → readJournal s standing ≡ maybe o none (partedAt 0 (w .stand)) → true ≡ there o → Parted s standing last
       go none q l f = no (cc)
       go (some es) q l f =
           record {
             journal = record { stand = w .stand; wait = es };
-            reads = l ∙ parted-end (w .stand) es;
+            reads = l ∙ parted-here (w .stand) es;
             latest-at = rw e at (w .top);
             next-at = edits-first s standing es q;
           }

@@ -1,21 +1,27 @@
-// The journal of edits.
+// The journal of edits, and who made them.
+use fault::Fault;
+use record::Bounds;
 use record::Front;
 ghost use mathlib.Core.Path.{_≡_};
+ghost use mathlib.Core.Bool.{true};
+ghost use mathlib.Core.List.{_++_};
 ghost use Prim.Native.Nat.{_+_, _≤_};
 ghost use lib.ListN.{length, drop};
 ghost use Rattle.base.specs.Choice.{there};
 ghost use Rattle.base.specs.Over.{over};
 ghost use Rattle.record.specs.Number.{littleEndian};
-ghost use Rattle.record.specs.declared.Front.the-variants as front;
-ghost use Rattle.record.specs.Walk.{frontAt};
+ghost use Rattle.record.specs.Record.{headBytes};
+ghost use Rattle.journal.specs.Journal as journal;
 ghost use Rattle.journal.specs.Journal.{readJournal};
-ghost use Rattle.journal.specs.Walk.{answered, latest, waiting, EndsAt, BeginsAt, editFront, Reads, edits, Walks};
+ghost use Rattle.journal.specs.Lent as lent;
+ghost use Rattle.journal.specs.Walk.{answered, latest, waiting, Within, editFront, ReadsBytes, Reads, edits, Walks, TellsPerson};
 
-// An edit from the journal: its place, where its old bytes start, where its new bytes start and where its record ends.
+// An edit from the journal: where its record starts, its place, where its old bytes start, where its new bytes start and where its record ends.
 pub enum Next {
     Damaged,
     Nothing,
     Edit {
+        start: usize,
         place: usize,
         old: usize,
         new: usize,
@@ -29,30 +35,37 @@ enum Walked {
     Sound { last: usize },
 }
 
-// The edit in a record of kind 1 from a place up to another.
-fn read_parts(used: &[u8], at: usize, end: usize) -> Next
-    requires { ⌜ (frontAt (now used) at ≡ front.Record 1 end) × (at + 6 ≤ end) × (end ≤ length (now used)) ⌝ }
-    ensures { λ r. ⌜ Reads (now (used .entry)) at r ⌝ }
+// Who made an edit: a person's number, 0 where nobody is named, or a refusal.
+pub enum Named {
+    Person(u16),
+    Refused(Fault),
+}
+
+// The edit in a record's bytes from a place up to its end.
+fn read_parts(used: &[u8], start: usize, from: usize, end: usize) -> Next
+    requires { ⌜ (from ≤ end) × (end ≤ length (now used)) ⌝ }
+    ensures { λ r. ⌜ ReadsBytes (now (used .entry)) start from end r ⌝ }
 {
-    let size = end - at;
-    if size < 18 {
+    let size = end - from;
+    if size < 12 {
         return Next::Damaged;
     }
-    let old = record::number4(used, at + 10);
-    let new = record::number4(used, at + 14);
-    if size != 18 + old + new {
+    let old = record::number4(used, from + 4);
+    let new = record::number4(used, from + 8);
+    if size != 12 + old + new {
         return Next::Damaged;
     }
-    let place = record::number4(used, at + 6);
+    let place = record::number4(used, from);
     Next::Edit {
+        start,
         place,
-        old: at + 18,
-        new: at + 18 + old,
+        old: from + 12,
+        new: from + 12 + old,
         end,
     }
 }
 
-// The edit in the record at a place; at the end there is nothing.
+// The edit in the record at a place, of kind 1 or behind a person's two bytes in one of kind 4; at the end there is nothing.
 fn read_edit(used: &[u8], at: usize) -> Next
     ensures { λ r. ⌜ Reads (now (used .entry)) at r ⌝ }
 {
@@ -62,10 +75,16 @@ fn read_edit(used: &[u8], at: usize) -> Next
     let Front::Record { kind, end } = record::read(used, at) else {
         return Next::Damaged;
     };
-    if kind != 1 {
+    if kind == 1 {
+        return read_parts(used, at, at + 6, end);
+    }
+    if kind != 4 {
         return Next::Damaged;
     }
-    read_parts(used, at, end)
+    if end < at + 8 {
+        return Next::Damaged;
+    }
+    read_parts(used, at, at + 8, end)
 }
 
 // Whether the records of edits fill the bytes from a place on.
@@ -82,6 +101,7 @@ fn filled(used: &[u8], from: usize) -> bool
                 return true;
             }
             Next::Edit {
+                start: _,
                 place: _,
                 old: _,
                 new: _,
@@ -108,6 +128,7 @@ fn walk(used: &[u8], standing: usize) -> Walked
                 return Walked::Damaged;
             }
             Next::Edit {
+                start: _,
                 place: _,
                 old: _,
                 new: _,
@@ -139,7 +160,7 @@ pub fn sound(used: &[u8], standing: usize) -> bool
 
 // The latest edit that stands: what an undo takes back.
 pub fn last_standing(used: &[u8], standing: usize) -> Next
-    ensures { λ r. ⌜ (answered (now (used .entry)) r ≡ latest (now (used .entry)) standing) × EndsAt (length (now (used .entry))) standing r ⌝ }
+    ensures { λ r. ⌜ (answered (now (used .entry)) r ≡ latest (now (used .entry)) standing) × Within (length (now (used .entry))) r ⌝ }
 {
     let Walked::Sound { last } = walk(used, standing) else {
         return Next::Damaged;
@@ -152,7 +173,7 @@ pub fn last_standing(used: &[u8], standing: usize) -> Next
 
 // The next edit that waits: what a redo makes again.
 pub fn first_waiting(used: &[u8], standing: usize) -> Next
-    ensures { λ r. ⌜ (answered (now (used .entry)) r ≡ waiting (now (used .entry)) standing) × BeginsAt (length (now (used .entry))) standing r ⌝ }
+    ensures { λ r. ⌜ (answered (now (used .entry)) r ≡ waiting (now (used .entry)) standing) × Within (length (now (used .entry))) r ⌝ }
 {
     let Walked::Sound { last: _ } = walk(used, standing) else {
         return Next::Damaged;
@@ -168,15 +189,66 @@ fn put_number(out: &mut [u8], at: usize, n: usize)
     record::put4(&mut out[at..], n);
 }
 
-// The record of an edit at a place, up to its new bytes, for which there is room.
-pub fn put_front(out: &mut [u8], at: usize, place: usize, old: &[u8], new: usize)
-    requires { ⌜ at + (18 + length (now old) + new) ≤ length (now out) ⌝ }
-    ensures { λ _. ⌜ now (out .exit) ≡ over (now (out .entry)) at (editFront place (now (old .entry)) new) ⌝ }
+// The head of a record of kind 4 at a place, and its person.
+fn put_person(out: &mut [u8], at: usize, size: usize, person: u16)
+    requires { ⌜ at + 8 ≤ length (now out) ⌝ }
+    ensures { λ _. ⌜ now (out .exit) ≡ over (now (out .entry)) at (headBytes size 4 ++ littleEndian 2 person) ⌝ }
+{
+    record::put_head(&mut out[at..], size, 4);
+    let from = at + 6;
+    record::put2(&mut out[from..], person);
+}
+
+// The record of a person's edit at a place, up to its new bytes, for which there is room.
+pub fn put_front(out: &mut [u8], at: usize, person: u16, place: usize, old: &[u8], new: usize)
+    requires { ⌜ at + (20 + length (now old) + new) ≤ length (now out) ⌝ }
+    ensures { λ _. ⌜ now (out .exit) ≡ over (now (out .entry)) at (editFront (journal.Person person) place (now (old .entry)) new) ⌝ }
 {
     let n = old.len();
-    record::put_head(&mut out[at..], 18 + n + new, 1);
-    put_number(out, at + 6, place);
-    put_number(out, at + 10, n);
-    put_number(out, at + 14, new);
-    splice::write(out, at + 18, old);
+    put_person(out, at, 20 + n + new, person);
+    put_number(out, at + 8, place);
+    put_number(out, at + 12, n);
+    put_number(out, at + 16, new);
+    splice::write(out, at + 20, old);
+}
+
+// Whether the two numbers fit a journal's buffer.
+pub fn fits(journal: &[u8], used: usize, standing: usize) -> bool
+    ensures { λ r. ⌜ r ≡ lent.numbersFit (lent.lent (now (journal .entry)) used standing) ⌝ }
+{
+    if journal.len() < used {
+        return false;
+    }
+    if 65536 < used {
+        return false;
+    }
+    standing <= used
+}
+
+// The person in the n-th record of a journal that is sound.
+fn person_in(used: &[u8], n: usize) -> Named
+    requires { ⌜ there (edits (now used)) ≡ true ⌝ }
+    ensures { λ r. ⌜ TellsPerson (now (used .entry)) n r ⌝ }
+{
+    let Bounds::Body { from, to: _ } = record::nth(used, n) else {
+        return Named::Refused(Fault::NothingLeft);
+    };
+    if record::number2(used, from - 2) == 4 {
+        return Named::Person(record::number2(used, from));
+    }
+    Named::Person(0)
+}
+
+// The person of record n, from 0, standing or waiting. Refusals: 14 for the numbers and the journal, 12 without such a record.
+pub fn person(journal: &[u8], used: usize, standing: usize, n: usize) -> Named
+    ensures { λ r. ⌜ lent.answered r ≡ lent.person (lent.lent (now (journal .entry)) used standing) n ⌝ }
+{
+    if !fits(journal, used, standing) {
+        return Named::Refused(Fault::Damaged);
+    }
+    let records = &journal[..used];
+    if !sound(records, standing) {
+        return Named::Refused(Fault::Damaged);
+    }
+    person_in(records, n)
 }

@@ -7,22 +7,22 @@ use Rattle.entry.specs.Lookup.{Extent}
 use Rattle.edit.specs.Calls.{State, atExit}
 use Rattle.edit.specs.Step.{answered, told, Made}
 use Rattle.edit.specs.declared.Edited.{Edited}
-use Rattle.kveldrim.specs.Abi.{codeOf, placeIn, byteIn, writtenIn, Returned, ReturnedLength, ReturnedEnds, ReturnedNumbers, Called}
+use Rattle.kveldrim.specs.Abi.{codeOf, placeIn, byteIn, writtenIn, Returned, ReturnedNumber, ReturnedEnds, ReturnedNumbers, Called}
 
 -- ---- the same is seen of equal answers
 
 pub same-returned : {A : Type 0} {a b : Answer A} {code place byte : ℕ} → a ≡ b → Returned a code place byte → Returned b code place byte
 same-returned e t = rw e at t
 
-pub same-length : {a b : Answer ℕ} {code place byte written₀ written : ℕ} → a ≡ b → ReturnedLength a code place byte written₀ written → ReturnedLength b code place byte written₀ written
-same-length e t = rw e at t
+pub same-number : {a b : Answer ℕ} {code place byte number₀ number : ℕ} → a ≡ b → ReturnedNumber a code place byte number₀ number → ReturnedNumber b code place byte number₀ number
+same-number e t = rw e at t
 
 -- a call that tells no byte is one whose byte is 0
-pub same-text : {a b : Answer ℕ} {code place byte written₀ written : ℕ} → a ≡ b → byteIn b ≡ 0 → ReturnedLength a code place byte written₀ written → ReturnedLength b code place 0 written₀ written
-same-text e z t =
-    let r = same-length e t in
+pub same-no-byte : {a b : Answer ℕ} {code place byte number₀ number : ℕ} → a ≡ b → byteIn b ≡ 0 → ReturnedNumber a code place byte number₀ number → ReturnedNumber b code place 0 number₀ number
+same-no-byte e z t =
+    let r = same-number e t in
     let q = r .returned in
-    record { returned = record { code-is = q .code-is; place-is = q .place-is; byte-is = sym z }; written-is = r .written-is }
+    record { returned = record { code-is = q .code-is; place-is = q .place-is; byte-is = sym z }; number-is = r .number-is }
 
 pub same-ends : {a b : Answer Extent} {code place byte from₀ from to₀ to : ℕ} → a ≡ b → ReturnedEnds a code place byte from₀ from to₀ to → ReturnedEnds b code place byte from₀ from to₀ to
 same-ends e t = rw e at t

@@ -11,7 +11,7 @@ use Rattle.edit.specs.Step.{Numbers}
 
 -- the number of the C interface, raised whenever a signature changes
 abbrev pub abi : ℕ
-abi = 1
+abi = 2
 
 -- the refusal's number, 0 if accepted
 abbrev pub codeOf : {A : Type 0} → Answer A → ℕ
@@ -39,10 +39,10 @@ pub record Returned {A : Type 0} (a : Answer A) (code place byte : ℕ) : Type 0
   pub place-is : place ≡ placeIn a
   pub byte-is : byte ≡ byteIn a
 
--- and of a call with an output: how many bytes were written
-pub record ReturnedLength (a : Answer ℕ) (code place byte written₀ written : ℕ) : Type 0 where
+-- and of a call that answers with one number, the bytes written or a person: that number
+pub record ReturnedNumber (a : Answer ℕ) (code place byte number₀ number : ℕ) : Type 0 where
   pub returned : Returned a code place byte
-  pub written-is : written ≡ writtenIn (λ n. n) a written₀
+  pub number-is : number ≡ writtenIn (λ n. n) a number₀
 
 -- of a call that finds a value: its two ends
 pub record ReturnedEnds (a : Answer Extent) (code place byte from₀ from to₀ to : ℕ) : Type 0 where

@@ -1,9 +1,12 @@
-// The calls that edit. The three numbers go in and come out; a refusal leaves them and every lent byte.
+// The calls that edit, and the one that tells who edited. The three numbers go in and come out; a refusal leaves them and every lent byte.
 use edit::Edited;
+use journal::Named;
 ghost use Rattle.change.specs.Change.{Set, Remove};
+ghost use Rattle.journal.specs.Journal.{Person, by};
+ghost use Rattle.journal.specs.Lent as who;
 ghost use Rattle.edit.specs.Calls.{request, undo, redo};
 ghost use Rattle.edit.specs.Step.{lent, answered};
-ghost use Rattle.kveldrim.specs.Abi.{ReturnedNumbers, Called};
+ghost use Rattle.kveldrim.specs.Abi.{ReturnedNumber, ReturnedNumbers, Called};
 
 // The answer of a call that edits.
 fn tell_edited(
@@ -41,6 +44,7 @@ pub extern "C" fn kveldrim_set(
     journal: &mut [u8],
     used: &mut u64,
     standing: &mut u64,
+    person: u16,
     group: &[u8],
     key: &[u8],
     text: &[u8],
@@ -48,13 +52,13 @@ pub extern "C" fn kveldrim_set(
     byte: &mut u64,
 ) -> u32
     ensures { λ r. ⌜ Called (lent (now (file .entry)) (now (size .entry)) (now (journal .entry)) (now (used .entry)) (now (standing .entry)))
-        (request (lent (now (file .entry)) (now (size .entry)) (now (journal .entry)) (now (used .entry)) (now (standing .entry))) (Set (now (group .entry)) (now (key .entry)) (now (text .entry))))
+        (request (lent (now (file .entry)) (now (size .entry)) (now (journal .entry)) (now (used .entry)) (now (standing .entry))) (by (Person person) (Set (now (group .entry)) (now (key .entry)) (now (text .entry)))))
         r (now (place .exit)) (now (byte .exit)) (now (size .exit)) (now (used .exit)) (now (standing .exit)) (now (file .exit)) (now (journal .exit)) ⌝ }
 {
     let length = *size as usize;
     let u = *used as usize;
     let n = *standing as usize;
-    let e = edit::set(file, length, journal, u, n, group, key, text);
+    let e = edit::set(file, length, journal, u, n, person, group, key, text);
     tell_edited(e, size, used, standing, place, byte)
 }
 
@@ -65,19 +69,20 @@ pub extern "C" fn kveldrim_remove(
     journal: &mut [u8],
     used: &mut u64,
     standing: &mut u64,
+    person: u16,
     group: &[u8],
     key: &[u8],
     place: &mut u64,
     byte: &mut u64,
 ) -> u32
     ensures { λ r. ⌜ Called (lent (now (file .entry)) (now (size .entry)) (now (journal .entry)) (now (used .entry)) (now (standing .entry)))
-        (request (lent (now (file .entry)) (now (size .entry)) (now (journal .entry)) (now (used .entry)) (now (standing .entry))) (Remove (now (group .entry)) (now (key .entry))))
+        (request (lent (now (file .entry)) (now (size .entry)) (now (journal .entry)) (now (used .entry)) (now (standing .entry))) (by (Person person) (Remove (now (group .entry)) (now (key .entry)))))
         r (now (place .exit)) (now (byte .exit)) (now (size .exit)) (now (used .exit)) (now (standing .exit)) (now (file .exit)) (now (journal .exit)) ⌝ }
 {
     let length = *size as usize;
     let u = *used as usize;
     let n = *standing as usize;
-    let e = edit::remove(file, length, journal, u, n, group, key);
+    let e = edit::remove(file, length, journal, u, n, person, group, key);
     tell_edited(e, size, used, standing, place, byte)
 }
 
@@ -121,4 +126,37 @@ pub extern "C" fn kveldrim_redo(
     let n = *standing as usize;
     let e = edit::redo(file, length, journal, u, n);
     tell_edited(e, size, used, standing, place, byte)
+}
+
+// The answer of the call for a person.
+fn tell_named(n: Named, place: &mut u64, byte: &mut u64, person: &mut u16) -> u32
+    ensures { λ r. ⌜ ReturnedNumber (who.answered n) r (now (place .exit)) (now (byte .exit)) (now (person .entry)) (now (person .exit)) ⌝ }
+{
+    match n {
+        Named::Person(p) => {
+            *place = 0;
+            *byte = 0;
+            *person = p;
+            0
+        }
+        Named::Refused(f) => crate::refuse(f, place, byte),
+    }
+}
+
+#[no_mangle]
+pub extern "C" fn kveldrim_person(
+    journal: &[u8],
+    used: u64,
+    standing: u64,
+    n: u64,
+    place: &mut u64,
+    person: &mut u16,
+) -> u32
+    ensures { λ r. ⌜ ReturnedNumber (who.person (who.lent (now (journal .entry)) used standing) n) r (now (place .exit)) 0 (now (person .entry)) (now (person .exit)) ⌝ }
+{
+    let u = used as usize;
+    let s = standing as usize;
+    let i = n as usize;
+    let mut byte = 0;
+    tell_named(journal::person(journal, u, s, i), place, &mut byte, person)
 }

@@ -15,7 +15,7 @@ ghost use Rattle.entry.specs.Choose.{choose};
 ghost use Rattle.entry.specs.Complete.{complete};
 ghost use Rattle.wellformed.specs.Check as check;
 ghost use Rattle.wellformed.specs.Pass as pass;
-ghost use Rattle.kveldrim.specs.Abi.{abi, Returned, ReturnedLength, ReturnedEnds};
+ghost use Rattle.kveldrim.specs.Abi.{abi, Returned, ReturnedNumber, ReturnedEnds};
 ghost use Rattle.fault.specs.Table.{numberOf, placeOf, byteOf};
 
 // A refusal, as it is told.
@@ -30,7 +30,7 @@ fn refuse(f: Fault, place: &mut u64, byte: &mut u64) -> u32
 
 // The answer of a call with an output.
 fn tell_written(w: Written, place: &mut u64, byte: &mut u64, written: &mut u64) -> u32
-    ensures { λ r. ⌜ ReturnedLength (answered w) r (now (place .exit)) (now (byte .exit)) (now (written .entry)) (now (written .exit)) ⌝ }
+    ensures { λ r. ⌜ ReturnedNumber (answered w) r (now (place .exit)) (now (byte .exit)) (now (written .entry)) (now (written .exit)) ⌝ }
 {
     match w {
         Written::Bytes(n) => {
@@ -57,7 +57,7 @@ fn tell_checked(c: Checked, place: &mut u64, byte: &mut u64) -> u32
     }
 }
 
-const ABI: u32 = 1;
+const ABI: u32 = 2;
 
 #[no_mangle]
 pub extern "C" fn kveldrim_abi() -> u32
@@ -142,7 +142,7 @@ pub extern "C" fn kveldrim_read_text(
     place: &mut u64,
     written: &mut u64,
 ) -> u32
-    ensures told { λ r. ⌜ ReturnedLength (told (readText (now (raw .entry))) (now (out .entry)))
+    ensures told { λ r. ⌜ ReturnedNumber (told (readText (now (raw .entry))) (now (out .entry)))
         r (now (place .exit)) 0 (now (written .entry)) (now (written .exit)) ⌝ }
     ensures output { λ _. ⌜ now (out .exit) ≡ held (readText (now (raw .entry))) (now (out .entry)) ⌝ }
 {
@@ -157,7 +157,7 @@ pub extern "C" fn kveldrim_write_text(
     place: &mut u64,
     written: &mut u64,
 ) -> u32
-    ensures told { λ r. ⌜ ReturnedLength (told (writeText (now (text .entry))) (now (out .entry)))
+    ensures told { λ r. ⌜ ReturnedNumber (told (writeText (now (text .entry))) (now (out .entry)))
         r (now (place .exit)) 0 (now (written .entry)) (now (written .exit)) ⌝ }
     ensures output { λ _. ⌜ now (out .exit) ≡ held (writeText (now (text .entry))) (now (out .entry)) ⌝ }
 {
@@ -172,7 +172,7 @@ pub extern "C" fn kveldrim_read_list(
     place: &mut u64,
     written: &mut u64,
 ) -> u32
-    ensures told { λ r. ⌜ ReturnedLength (told (readElements (now (raw .entry))) (now (out .entry)))
+    ensures told { λ r. ⌜ ReturnedNumber (told (readElements (now (raw .entry))) (now (out .entry)))
         r (now (place .exit)) 0 (now (written .entry)) (now (written .exit)) ⌝ }
     ensures output { λ _. ⌜ now (out .exit) ≡ held (readElements (now (raw .entry))) (now (out .entry)) ⌝ }
 {
@@ -192,7 +192,7 @@ pub extern "C" fn kveldrim_expand(
     byte: &mut u64,
     written: &mut u64,
 ) -> u32
-    ensures told { λ r. ⌜ ReturnedLength (told (expand (now (file .entry)) (now (locale .entry)) (now (location .entry)) (now (list .entry)) run) (now (out .entry)))
+    ensures told { λ r. ⌜ ReturnedNumber (told (expand (now (file .entry)) (now (locale .entry)) (now (location .entry)) (now (list .entry)) run) (now (out .entry)))
         r (now (place .exit)) (now (byte .exit)) (now (written .entry)) (now (written .exit)) ⌝ }
     ensures output { λ _. ⌜ now (out .exit) ≡ held (expand (now (file .entry)) (now (locale .entry)) (now (location .entry)) (now (list .entry)) run) (now (out .entry)) ⌝ }
 {

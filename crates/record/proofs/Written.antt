@@ -1,10 +1,9 @@
 -- What the stores of a head and of a record leave. Assumes nothing.
 use mathlib.Core.Path.{_≡_, _∙_}
 use mathlib.Core.List.{List, _++_}
-use Prim.Native.Nat.{ℕ, _+_, _/_, _%_, _≤_}
+use Prim.Native.Nat.{ℕ, _+_, _≤_}
 use native.Mathlib.Omega.{arith}
-use lib.ListN.{length, take, drop, set, length-drop}
-use lib.Seq.{sets-eq, drop-drop}
+use lib.ListN.{length, take, drop}
 use Rattle.base.specs.Over.{over, atFront}
 use Rattle.base.proofs.Tail.{lent, back}
 use Rattle.base.proofs.Over.{copied, over-tail, over-then, over-before}
@@ -12,13 +11,12 @@ use Rattle.record.specs.Number.{littleEndian}
 use Rattle.record.specs.Record.{Rec, headBytes, recordLength, recordBytes}
 use Rattle.record.proofs.Sizes.{length-head}
 
--- the kind's two bytes behind the length's four
-pub head-written : (out P : List ℕ) (size kind : ℕ) → 6 ≤ length out → P ≡ atFront out (littleEndian 4 size)
-    → set (set P 4 (kind % 256)) 5 (kind / 256 % 256) ≡ atFront out (headBytes size kind)
+-- the kind's two bytes at the front of the tail behind the length's four
+pub head-written : (out P Y : List ℕ) (size kind : ℕ) → 6 ≤ length out → P ≡ atFront out (littleEndian 4 size) → Y ≡ atFront (lent 4 P) (littleEndian 2 kind)
+    → back 4 P Y ≡ atFront out (headBytes size kind)
 unfolding headBytes littleEndian
-head-written out P size kind h p =
-    let room : 4 + length (littleEndian 2 kind) ≤ length P = rw p (simp length-drop (omega arith)) in
-    sets-eq (littleEndian 2 kind) P 4 room ∙ rw (p, drop-drop 2 4 out)
+head-written out P Y size kind h p y =
+    over-tail P 4 (littleEndian 2 kind) y ∙ rw p (over-then out 0 (littleEndian 4 size) (littleEndian 2 kind) {n = 4} (omega arith) (omega arith))
 
 -- a head written at the front of a tail, and then a body copied to the front of the tail behind it
 pub record-written : (out Y Z : List ℕ) (at : ℕ) (r : Rec) → at + recordLength (r .body) ≤ length out

@@ -139,14 +139,22 @@ pub fn put4(out: &mut [u8], n: usize)
     out[3] = (n / 256 / 256 / 256 % 256) as u8;
 }
 
+// A number in the two bytes at the start of a part.
+pub fn put2(out: &mut [u8], n: u16)
+    requires { ⌜ 2 ≤ length (now out) ⌝ }
+    ensures { λ _. ⌜ now (out .exit) ≡ atFront (now (out .entry)) (littleEndian 2 n) ⌝ }
+{
+    out[0] = (n % 256) as u8;
+    out[1] = (n / 256 % 256) as u8;
+}
+
 // The length and the kind at the start of a part.
 pub fn put_head(out: &mut [u8], size: usize, kind: u16)
     requires { ⌜ 6 ≤ length (now out) ⌝ }
     ensures { λ _. ⌜ now (out .exit) ≡ atFront (now (out .entry)) (headBytes size kind) ⌝ }
 {
     put4(out, size);
-    out[4] = (kind % 256) as u8;
-    out[5] = (kind / 256 % 256) as u8;
+    put2(&mut out[4..], kind);
 }
 
 // A record through the part of an output that starts at a place; the answer is where it ends.

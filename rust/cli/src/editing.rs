@@ -5,7 +5,7 @@ use std::ffi::OsStr;
 use std::os::unix::ffi::OsStrExt;
 use std::process::ExitCode;
 
-use kveldrim::{Document, Edit, Edits, Kind, Refusal};
+use kveldrim::{Document, Edit, Edits, Kind, Person, Refusal};
 
 use crate::arguments::{Change, Key, Log, Manner, Remove, Set, Step};
 use crate::log::{edits, Tense, Told};
@@ -16,12 +16,14 @@ use crate::{expand, json, locale, streams};
 pub fn set(set: &Set) -> ExitCode {
     let text = set.text.as_bytes();
     change(&set.key, &set.change, |document, group, key| {
-        document.set(group, key, text)
+        document.set(Person::NOBODY, group, key, text)
     })
 }
 
 pub fn remove(remove: &Remove) -> ExitCode {
-    change(&remove.key, &remove.change, Document::remove)
+    change(&remove.key, &remove.change, |document, group, key| {
+        document.remove(Person::NOBODY, group, key)
+    })
 }
 
 /// A set or a remove of a key, with its locale.

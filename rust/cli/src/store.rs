@@ -246,6 +246,8 @@ mod tests {
     use std::thread;
     use std::time::Instant;
 
+    use kveldrim::Person;
+
     use super::*;
     use crate::kills::Place;
 
@@ -258,7 +260,7 @@ mod tests {
         let saved = Store::edit(place.file().as_os_str(), false, wait).and_then(|store| {
             let mut document = store.document();
             document
-                .set(b"Desktop Entry", key.as_bytes(), b"x")
+                .set(Person::NOBODY, b"Desktop Entry", key.as_bytes(), b"x")
                 .unwrap();
             store.save(&document)
         });

@@ -8,6 +8,7 @@ use reference::Refusal;
 use crate::edits::{self, List};
 use crate::expand::Question;
 use crate::lent::{Lent, Numbers};
+use crate::persons;
 use crate::random::Random;
 
 /// How often each call gave each number, 0 for an answer.
@@ -24,6 +25,8 @@ pub enum Case {
     Expand(Box<Question>),
     /// Calls that edit, one after another.
     Edits(List),
+    /// A record of a journal whose person is asked for.
+    Person(persons::Question),
 }
 
 /// The arguments of a lookup (group, key) and of a choice (group, plain key, locale).
@@ -43,6 +46,7 @@ impl Case {
             Case::Text(text) => text,
             Case::Expand(question) => &question.file,
             Case::Edits(list) => list.file(),
+            Case::Person(question) => &question.journal,
         }
     }
 
@@ -56,13 +60,15 @@ impl Case {
             Case::Text(_) => Case::Text(bytes),
             Case::Expand(question) => Case::Expand(Box::new(question.about(bytes))),
             Case::Edits(list) => Case::Edits(list.about(&bytes)),
+            Case::Person(question) => Case::Person(question.about(bytes)),
         }
     }
 
-    /// The same without one of its calls that edit; none if it has no such call.
-    pub fn without(&self, call: usize) -> Option<Case> {
+    /// The same without one of its calls that edit, or of the records where a person is asked for; none if there is no such one.
+    pub fn without(&self, number: usize) -> Option<Case> {
         match self {
-            Case::Edits(list) => Some(Case::Edits(list.without(call)?)),
+            Case::Edits(list) => Some(Case::Edits(list.without(number)?)),
+            Case::Person(question) => Some(Case::Person(question.without(number)?)),
             _ => None,
         }
     }
@@ -72,6 +78,7 @@ impl Case {
         let words = format!("\"{}\"", self.bytes().escape_ascii());
         match self {
             Case::Edits(list) => words + &list.words(),
+            Case::Person(question) => words + &question.words(),
             _ => words,
         }
     }
@@ -95,6 +102,7 @@ impl Case {
             }
             Case::Expand(question) => question.compare(asker),
             Case::Edits(list) => asker.edits(list, &edits::proved),
+            Case::Person(question) => asker.person(question, &persons::proved),
         }
     }
 }

@@ -1,8 +1,8 @@
 //! Lists of calls that edit. After every call both buffers and all numbers are held against the reference's journal and,
-//! from a sound start with an empty journal, against its book.
+//! from a sound start with an empty journal or with that of 01's calls, against its book.
 
-use kveldrim::{ffi, Buffers};
-use reference::{Book, Refusal, State};
+use kveldrim::{ffi, Buffers, Person};
+use reference::{Book, RecordKind, Refusal, State};
 
 use crate::calls::{bound, named, Asker};
 use crate::lent::{Lent, Numbers};
@@ -19,15 +19,18 @@ pub enum Kind {
 #[derive(Clone)]
 pub struct Call {
     pub kind: Kind,
+    /// What a set or remove records: the kind 1 for 01's calls, else the kind 4 with the person.
+    pub record: RecordKind,
     pub group: Vec<u8>,
     pub key: Vec<u8>,
     pub text: Vec<u8>,
 }
 
-/// Two buffers with their numbers, and calls to make on them.
+/// Two buffers with their numbers, 01's calls that were made on them, and calls to make on what these left.
 #[derive(Clone)]
 pub struct List {
     pub start: State,
+    pub old_calls: Vec<Call>,
     pub calls: Vec<Call>,
 }
 
@@ -43,9 +46,9 @@ pub struct Given {
     pub byte: *mut u64,
 }
 
-/// Makes a call of the C interface with what is given and these of the arguments.
+/// Makes a call of the C interface with what is given, the person and these of the arguments.
 macro_rules! made {
-    ($call:path, $given:expr $(, $argument:expr)*) => {
+    ($call:path, $given:expr $(; $person:expr $(, $argument:expr)*)?) => {
         // SAFETY: the bytes and the numbers outlive the call.
         unsafe {
             $call(
@@ -56,7 +59,7 @@ macro_rules! made {
                 $given.journal.1,
                 $given.used,
                 $given.standing,
-                $($argument.0, $argument.1,)*
+                $($person, $($argument.0, $argument.1,)*)?
                 $given.place,
                 $given.byte,
             )
@@ -67,9 +70,10 @@ macro_rules! made {
 /// The calls of the proved library.
 pub fn proved(call: &Call, given: &Given) -> u32 {
     let [group, key, text] = given.arguments;
+    let person = call.record.person();
     match call.kind {
-        Kind::Set => made!(ffi::kveldrim_set, given, group, key, text),
-        Kind::Remove => made!(ffi::kveldrim_remove, given, group, key),
+        Kind::Set => made!(ffi::kveldrim_set, given; person, group, key, text),
+        Kind::Remove => made!(ffi::kveldrim_remove, given; person, group, key),
         Kind::Undo => made!(ffi::kveldrim_undo, given),
         Kind::Redo => made!(ffi::kveldrim_redo, given),
     }
@@ -80,20 +84,28 @@ impl Call {
     pub fn step(kind: Kind) -> Call {
         Call {
             kind,
+            record: RecordKind::Four(0),
             group: Vec::new(),
             key: Vec::new(),
             text: Vec::new(),
         }
     }
 
-    /// A set in the group Desktop Entry.
+    /// A set in the group Desktop Entry by person 7.
     pub fn set(key: &str, text: &[u8]) -> Call {
         Call {
             kind: Kind::Set,
+            record: RecordKind::Four(7),
             group: b"Desktop Entry".to_vec(),
             key: key.into(),
             text: text.to_vec(),
         }
+    }
+
+    /// The same as a call of 01's.
+    pub fn old(mut self) -> Call {
+        self.record = RecordKind::One;
+        self
     }
 
     pub fn name(&self) -> &'static str {
@@ -105,6 +117,16 @@ impl Call {
         }
     }
 
+    /// The name, and for a set or remove what it records.
+    fn words(&self) -> String {
+        let name = self.name();
+        match (self.kind, self.record) {
+            (Kind::Undo | Kind::Redo, _) => name.to_string(),
+            (_, RecordKind::One) => format!("{name} of 01"),
+            (_, RecordKind::Four(person)) => format!("{name} by person {person}"),
+        }
+    }
+
     fn arguments(&self) -> [&[u8]; 3] {
         [&self.group, &self.key, &self.text]
     }
@@ -112,8 +134,8 @@ impl Call {
     /// The call on the reference's journal.
     pub fn on_state(&self, state: &mut State) -> Result<(), Refusal> {
         match self.kind {
-            Kind::Set => reference::set(state, &self.group, &self.key, &self.text),
-            Kind::Remove => reference::remove(state, &self.group, &self.key),
+            Kind::Set => reference::set(state, self.record, &self.group, &self.key, &self.text),
+            Kind::Remove => reference::remove(state, self.record, &self.group, &self.key),
             Kind::Undo => reference::undo(state),
             Kind::Redo => reference::redo(state),
         }
@@ -121,17 +143,19 @@ impl Call {
 
     fn on_book(&self, book: &mut Book) -> Result<(), Refusal> {
         match self.kind {
-            Kind::Set => book.set(&self.group, &self.key, &self.text),
-            Kind::Remove => book.remove(&self.group, &self.key),
+            Kind::Set => book.set(self.record, &self.group, &self.key, &self.text),
+            Kind::Remove => book.remove(self.record, &self.group, &self.key),
             Kind::Undo => book.undo(),
             Kind::Redo => book.redo(),
         }
     }
 
-    fn on_bindings(&self, mut buffers: Buffers) -> Result<(), kveldrim::Refusal> {
+    /// The call over the bindings.
+    pub fn on_buffers(&self, buffers: &mut Buffers) -> Result<(), kveldrim::Refusal> {
+        let person = Person(self.record.person());
         match self.kind {
-            Kind::Set => buffers.set(&self.group, &self.key, &self.text),
-            Kind::Remove => buffers.remove(&self.group, &self.key),
+            Kind::Set => buffers.set(person, &self.group, &self.key, &self.text),
+            Kind::Remove => buffers.remove(person, &self.group, &self.key),
             Kind::Undo => buffers.undo(),
             Kind::Redo => buffers.redo(),
         }
@@ -154,11 +178,24 @@ impl List {
         list
     }
 
-    /// The same without one of the calls; none if there is no such call.
+    /// The same without one of the calls, 01's first; none if there is no such call.
     pub fn without(&self, call: usize) -> Option<List> {
         let mut list = self.clone();
-        (call < list.calls.len()).then(|| drop(list.calls.remove(call)))?;
+        let (calls, call) = match call.checked_sub(list.old_calls.len()) {
+            Some(call) => (&mut list.calls, call),
+            None => (&mut list.old_calls, call),
+        };
+        (call < calls.len()).then(|| drop(calls.remove(call)))?;
         Some(list)
+    }
+
+    /// What 01's calls left.
+    pub fn left(&self) -> State {
+        let mut state = self.start.clone();
+        for call in &self.old_calls {
+            let _ = call.on_state(&mut state);
+        }
+        state
     }
 
     /// The numbers and the calls in words.
@@ -176,9 +213,9 @@ impl List {
             journal.len(),
             journal[..journal.len().min(*used as usize)].escape_ascii()
         );
-        for call in &self.calls {
+        for call in self.old_calls.iter().chain(&self.calls) {
             words += "\n";
-            words += call.name();
+            words += &call.words();
             for argument in call.arguments() {
                 words += &format!(" \"{}\"", argument.escape_ascii());
             }
@@ -186,7 +223,7 @@ impl List {
         words
     }
 
-    /// The book of the list, if its start is what a book asks for.
+    /// The book of the list after 01's calls, if its start is what a book asks for.
     fn book(&self) -> Option<Book> {
         let State {
             file,
@@ -198,13 +235,30 @@ impl List {
         else {
             return None;
         };
-        let sound = *file_len <= file.len() as u64 && reference::check(self.file()).is_ok();
-        sound.then(|| Book::new(self.file(), file.len(), journal.len()))
+        if *file_len > file.len() as u64 || reference::check(self.file()).is_err() {
+            return None;
+        }
+        let mut book = Book::new(self.file(), file.len(), journal.len());
+        for call in &self.old_calls {
+            let _ = call.on_book(&mut book);
+        }
+        Some(book)
     }
 }
 
 fn numbers(state: &State) -> [u64; 3] {
     [state.file_len, state.used, state.standing]
+}
+
+/// The name of an undo or redo that went over a record of the kind 1, from this standing number to that of `state`.
+fn step_of_kind_1(call: &Call, before: u64, state: &State) -> Option<&'static str> {
+    let name = match call.kind {
+        Kind::Undo => "undo of kind 1",
+        Kind::Redo => "redo of kind 1",
+        Kind::Set | Kind::Remove => return None,
+    };
+    let start = before.min(state.standing) as usize;
+    (before != state.standing && state.journal[start + 4] == 1).then_some(name)
 }
 
 impl Asker {
@@ -214,15 +268,17 @@ impl Asker {
         list: &List,
         editor: &dyn Fn(&Call, &Given) -> u32,
     ) -> Result<(), String> {
-        let mut state = list.start.clone();
-        let mut bound = list.start.clone();
+        let mut state = list.left();
+        let mut bound = state.clone();
         let mut book = list.book();
         let mut file = self.lend(&state.file);
         let mut journal = self.lend(&state.journal);
         for (at, call) in list.calls.iter().enumerate() {
             let given = Numbers::given(numbers(&state));
+            let before = state.standing;
             let expected = call.on_state(&mut state);
-            self.count(call.name(), &expected);
+            let of_kind_1 = step_of_kind_1(call, before, &state);
+            self.count(of_kind_1.unwrap_or(call.name()), &expected);
             let outcome = self
                 .edit(
                     call,
@@ -238,7 +294,7 @@ impl Asker {
                     None => Ok(()),
                 });
             named(
-                &format!("call {at}, {}", call.name()),
+                &format!("call {at}, {}", call.words()),
                 &call.arguments(),
                 outcome,
             )?;
@@ -282,6 +338,23 @@ impl Asker {
     }
 }
 
+/// Lends the buffers and numbers of a state to calls of the bindings.
+pub fn with_buffers<A>(state: &mut State, calls: impl FnOnce(&mut Buffers) -> A) -> A {
+    let mut numbers = kveldrim::Numbers {
+        file_len: state.file_len,
+        used: state.used,
+        standing: state.standing,
+    };
+    let answer = calls(&mut Buffers {
+        file: &mut state.file,
+        journal: &mut state.journal,
+        numbers: &mut numbers,
+    });
+    (state.file_len, state.used, state.standing) =
+        (numbers.file_len, numbers.used, numbers.standing);
+    answer
+}
+
 /// The call over the bindings, on buffers of its own.
 fn on_bindings(
     call: &Call,
@@ -289,17 +362,7 @@ fn on_bindings(
     state: &State,
     expected: Result<(), Refusal>,
 ) -> Result<(), String> {
-    let mut three = kveldrim::Numbers {
-        file_len: own.file_len,
-        used: own.used,
-        standing: own.standing,
-    };
-    let answer = call.on_bindings(Buffers {
-        file: &mut own.file,
-        journal: &mut own.journal,
-        numbers: &mut three,
-    });
-    [own.file_len, own.used, own.standing] = [three.file_len, three.used, three.standing];
+    let answer = with_buffers(own, |buffers| call.on_buffers(buffers));
     bound(answer, expected)?;
     match own == state {
         true => Ok(()),
@@ -309,7 +372,7 @@ fn on_bindings(
     }
 }
 
-/// The call in the book, which tells the same and has the same file and standing number.
+/// The call in the book, which tells the same and has the same file, standing number and persons.
 fn on_book(
     call: &Call,
     book: &mut Book,
@@ -318,8 +381,12 @@ fn on_book(
 ) -> Result<(), String> {
     let told = call.on_book(book);
     let file = &state.file[..state.file_len as usize];
-    if (told, &book.file()[..], book.standing()) == (expected, file, state.standing) {
+    let person = |n| reference::person(&state.journal, state.used, state.standing, n);
+    let persons: Vec<u16> = (0..).map_while(|n| person(n).ok()).collect();
+    if (told, &book.file()[..], book.standing(), book.persons())
+        == (expected, file, state.standing, persons)
+    {
         return Ok(());
     }
-    Err(format!("the book tells {told:?}, the journal {expected:?}, or their files or standing numbers differ"))
+    Err(format!("the book tells {told:?}, the journal {expected:?}, or their files, standing numbers or persons differ"))
 }

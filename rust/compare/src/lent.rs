@@ -117,6 +117,13 @@ impl Numbers {
         numbers
     }
 
+    /// A number that was not written but for its first two bytes, which are these.
+    pub fn two_bytes(written: u16) -> u64 {
+        let mut bytes = BEFORE.to_ne_bytes();
+        bytes[..2].copy_from_slice(&written.to_ne_bytes());
+        u64::from_ne_bytes(bytes)
+    }
+
     /// Pointers to the place, the byte and the three further numbers.
     pub fn pointers(&mut self) -> [*mut u64; 5] {
         let start = self.slots.as_mut_ptr();

@@ -7,6 +7,7 @@ pub mod expand;
 pub mod files;
 pub mod lent;
 pub mod lists;
+pub mod persons;
 pub mod pieces;
 pub mod random;
 pub mod run;

@@ -1,10 +1,14 @@
-//! Makes lists of calls that edit: sound starts, worked journals, damaged and foreign ones, and those near the bounds.
+//! Makes lists of calls that edit: sound starts, worked journals, damaged and foreign ones, and those near the bounds. The same
+//! journals serve where the person of a record is asked for.
 
-use reference::State;
+use std::ops::RangeInclusive;
+
+use reference::{RecordKind, State};
 
 use crate::calls::Case;
 use crate::edits::{Call, Kind, List};
 use crate::files;
+use crate::persons::Question;
 use crate::pieces::{self, BORDERS};
 use crate::random::Random;
 
@@ -44,19 +48,37 @@ fn roomy(file: &[u8], random: &mut Random) -> State {
 /// A list from a file with an empty journal. Its calls share a few names, most of which the file has.
 pub fn started(file: &[u8], most: usize, random: &mut Random) -> List {
     let start = roomy(file, random);
-    continued(start, most, random)
+    continued(start, 1..=most, random)
 }
 
-/// Calls from a start on.
-fn continued(start: State, most: usize, random: &mut Random) -> List {
+/// As [`started`], but the first calls are 01's; at least one is, and at least one is not.
+pub fn started_by_old_calls(file: &[u8], most: usize, random: &mut Random) -> List {
+    let start = roomy(file, random);
+    let mut list = continued(start, 2..=most, random);
+    let count = random.within(1, list.calls.len() - 1);
+    list.old_calls = list.calls.drain(..count).map(Call::old).collect();
+    list
+}
+
+/// As [`started`], or in half of the cases as [`started_by_old_calls`].
+pub fn started_by_any(file: &[u8], most: usize, random: &mut Random) -> List {
+    match random.once_in(2) {
+        true => started(file, most, random),
+        false => started_by_old_calls(file, most, random),
+    }
+}
+
+/// So many calls from a start on.
+fn continued(start: State, calls: RangeInclusive<usize>, random: &mut Random) -> List {
     let mut list = List {
         start,
+        old_calls: Vec::new(),
         calls: Vec::new(),
     };
     let asks: Vec<_> = (0..random.within(1, 5))
         .map(|_| files::ask(list.file(), random))
         .collect();
-    for _ in 0..random.within(1, most) {
+    for _ in 0..random.within(*calls.start(), *calls.end()) {
         let ask = &asks[random.below(asks.len())];
         let kind = match random.below(20) {
             0..=7 => Kind::Set,
@@ -74,10 +96,23 @@ fn continued(start: State, most: usize, random: &mut Random) -> List {
     list
 }
 
+/// A person: one at a border of the two bytes, or any.
+pub fn person(random: &mut Random) -> u16 {
+    match random.below(8) {
+        0 => 0,
+        1 => 1,
+        2 => 255,
+        3 => 256,
+        4 => 65_535,
+        _ => random.number() as u16,
+    }
+}
+
 /// A call, with as many arguments as its kind takes.
 fn call(kind: Kind, group: &[u8], key: &[u8], random: &mut Random) -> Call {
     let mut call = Call::step(kind);
     if matches!(kind, Kind::Set | Kind::Remove) {
+        call.record = RecordKind::Four(person(random));
         (call.group, call.key) = (group.to_vec(), key.to_vec());
     }
     if kind == Kind::Set {
@@ -101,11 +136,11 @@ fn text(random: &mut Random) -> Vec<u8> {
     }
 }
 
-/// A state with edits in its journal, some of them undone.
-fn worked(random: &mut Random) -> State {
+/// A state with edits of up to so many calls in its journal, some of them undone, some of 01's calls.
+fn worked(most: usize, random: &mut Random) -> State {
     let file = files::sound(random, 3, 4);
-    let list = started(&file, 8, random);
-    let mut state = list.start;
+    let list = started_by_any(&file, most, random);
+    let mut state = list.left();
     for call in &list.calls {
         let _ = call.on_state(&mut state);
     }
@@ -114,18 +149,18 @@ fn worked(random: &mut Random) -> State {
 
 /// A list from a state with something wrong in it: a number, a byte of the journal or of the file, a buffer cut short.
 pub fn damaged(random: &mut Random) -> Case {
-    let mut state = worked(random);
+    let mut state = worked(8, random);
     for _ in 0..random.within(1, 2) {
         damage(&mut state, random);
     }
-    Case::Edits(continued(state, 4, random))
+    Case::Edits(continued(state, 1..=4, random))
 }
 
 fn damage(state: &mut State, random: &mut Random) {
     let used = state.journal.len().min(state.used as usize);
     let starts = records(&state.journal[..used]);
     let start = starts[random.below(starts.len())];
-    match random.below(12) {
+    match random.below(16) {
         0 => state.file_len = odd(state.file_len, state.file.len(), random),
         1 => state.used = odd(state.used, state.journal.len(), random),
         2 => state.standing = odd(state.standing, used, random),
@@ -133,9 +168,9 @@ fn damage(state: &mut State, random: &mut Random) {
         4 => state.used = start as u64,
         5 if used > 0 => state.journal[random.below(used)] = random.number() as u8,
         6 if used > 0 => state.journal[random.below(used)] ^= 1 << random.below(8),
-        7 if used > start + 18 => {
-            let at = start + random.below(18);
-            state.journal[at] = random.byte_of(&[0, 1, 2, 17, 18, 19, 255]);
+        7 if used > start + 20 => {
+            let at = start + random.below(20);
+            state.journal[at] = random.byte_of(&[0, 1, 2, 4, 17, 18, 19, 20, 21, 255]);
         }
         8 if used > 0 => {
             let noise = pieces::wild(random, used.min(30));
@@ -147,6 +182,25 @@ fn damage(state: &mut State, random: &mut Random) {
             state.file[at] = random.byte_of(BORDERS);
         }
         10 => state.file.truncate(random.within(0, state.file.len())),
+        // Another kind; the length may be that of its kind or not.
+        11 if used > start + 5 => {
+            let kind: u16 = [0, 1, 2, 3, 4, 5, 0x101, 0x104, 0x400][random.below(9)];
+            state.journal[start + 4..start + 6].copy_from_slice(&kind.to_le_bytes());
+        }
+        // Cut in the numbers of a record, the person's bytes among them.
+        12 => {
+            state.used = (start + random.within(1, 21)) as u64;
+            state.standing = state.standing.min(start as u64);
+        }
+        13 | 14 => {
+            let record = misfit(random);
+            let end = start + record.len();
+            if end <= state.journal.len() {
+                state.journal[start..end].copy_from_slice(&record);
+                state.used = end as u64;
+                state.standing = state.standing.min(start as u64);
+            }
+        }
         _ => state
             .journal
             .truncate(random.within(0, state.journal.len())),
@@ -167,7 +221,7 @@ fn odd(right: u64, room: usize, random: &mut Random) -> u64 {
 }
 
 /// Where the records of journal bytes start, by their lengths, and where the last ends.
-fn records(used: &[u8]) -> Vec<usize> {
+pub fn records(used: &[u8]) -> Vec<usize> {
     let mut starts = vec![0];
     let mut at = 0;
     while let Some(length) = used[at..].first_chunk() {
@@ -182,15 +236,51 @@ fn records(used: &[u8]) -> Vec<usize> {
 }
 
 /// A journal's record.
-fn record(place: usize, old: &[u8], new: &[u8]) -> Vec<u8> {
-    let length = 18 + old.len() + new.len();
+pub fn record(kind: RecordKind, place: usize, old: &[u8], new: &[u8]) -> Vec<u8> {
+    let front = match kind {
+        RecordKind::One => vec![1, 0],
+        RecordKind::Four(person) => [[4, 0], person.to_le_bytes()].concat(),
+    };
+    let length = 16 + front.len() + old.len() + new.len();
     let four = |number: usize| (number as u32).to_le_bytes();
     let head = [four(place), four(old.len()), four(new.len())];
-    [&four(length)[..], &[1, 0], &head.concat(), old, new].concat()
+    [&four(length)[..], &front, &head.concat(), old, new].concat()
 }
 
-/// A list from a journal that no call wrote: its records are sound, but what they say of the file is anything.
+/// The kind of a record, with any person.
+fn any_kind(random: &mut Random) -> RecordKind {
+    match random.once_in(3) {
+        true => RecordKind::One,
+        false => RecordKind::Four(person(random)),
+    }
+}
+
+/// A record that mostly has not the length of its kind: often that of the other kind, or one too short for its numbers.
+fn misfit(random: &mut Random) -> Vec<u8> {
+    let [old, new] = [(); 2].map(|()| pieces::wild(random, 4));
+    let mut record = record(any_kind(random), random.below(30), &old, &new);
+    let length = match random.below(4) {
+        0 => record.len() + random.within(1, 2),
+        1 => record.len() - random.within(1, 2),
+        2 => random.within(0, 20),
+        _ => record.len() + 2,
+    };
+    record.resize(length.max(4), 0);
+    record[..4].copy_from_slice(&(length as u32).to_le_bytes());
+    record
+}
+
+/// A list from a foreign journal.
 pub fn foreign(random: &mut Random) -> Case {
+    let mut state = foreign_state(random);
+    if random.once_in(8) {
+        damage(&mut state, random);
+    }
+    Case::Edits(continued(state, 1..=5, random))
+}
+
+/// A state whose journal no call wrote: its records are sound and of both kinds, but what they say of the file is anything.
+fn foreign_state(random: &mut Random) -> State {
     let file = files::sound(random, 2, 3);
     let mut state = roomy(&file, random);
     let records = random.within(1, 4);
@@ -213,9 +303,10 @@ pub fn foreign(random: &mut Random) -> Case {
                 .copied()
                 .collect(),
         };
+        let kind = any_kind(random);
         journal.extend(match number < standing {
-            true => record(place, &other, there),
-            false => record(place, there, &other),
+            true => record(kind, place, &other, there),
+            false => record(kind, place, there, &other),
         });
     }
     if standing == records {
@@ -225,10 +316,85 @@ pub fn foreign(random: &mut Random) -> Case {
     let room = state.journal.len().max(journal.len());
     state.journal.resize(room, 0x5A);
     state.journal[..journal.len()].copy_from_slice(&journal);
-    if random.once_in(8) {
+    state
+}
+
+/// The person of a record in a journal that calls left.
+pub fn person_of_worked(random: &mut Random) -> Case {
+    let state = worked(20, random);
+    asked(state, random)
+}
+
+/// The person of a record in a foreign journal, now and then with used bytes at the bound.
+pub fn person_of_foreign(random: &mut Random) -> Case {
+    let mut state = foreign_state(random);
+    if random.once_in(20) {
+        let used = state.used as usize;
+        let kind = any_kind(random);
+        let left = JOURNAL_BOUND - used - record(kind, 0, b"", b"").len() + random.below(2);
+        let last = record(kind, 0, b"", &vec![b'v'; left]);
+        state.journal.truncate(used);
+        state.journal.extend(last);
+        state.used = state.journal.len() as u64;
+    }
+    asked(state, random)
+}
+
+/// The person of a record in a journal with something wrong in it.
+pub fn person_of_damaged(random: &mut Random) -> Case {
+    let mut state = worked(20, random);
+    for _ in 0..random.within(1, 2) {
         damage(&mut state, random);
     }
-    Case::Edits(continued(state, 5, random))
+    asked(state, random)
+}
+
+/// The person of a record of a state's journal: mostly one that is there, else one behind the last or of a very large number.
+fn asked(state: State, random: &mut Random) -> Case {
+    let State {
+        journal,
+        used,
+        standing,
+        ..
+    } = state;
+    let count = records(&journal[..journal.len().min(used as usize)]).len() - 1;
+    let n = match random.below(12) {
+        0 => count,
+        1 => count + random.within(1, 3),
+        2 => usize::MAX - random.below(3),
+        3 => (1 << 32) + random.below(count + 1),
+        _ => random.below(count.max(1)),
+    };
+    Case::Person(Question {
+        journal,
+        used,
+        standing,
+        n: n as u64,
+    })
+}
+
+/// A file that the edits of [`single_records`] fit.
+pub const SINGLE: &[u8] = b"[Desktop Entry]\nA=abcde\n";
+
+/// Journals of one record, each with how many of its bytes are used: of each kind up to 6 and of some larger, with and without a
+/// person, telling every length up to 30, and with every number of used bytes up to 30.
+pub fn single_records() -> Vec<(Vec<u8>, u64)> {
+    let edits: [(&[u8], &[u8]); 4] = [(b"", b""), (b"a", b""), (b"", b"ab"), (b"abc", b"abcde")];
+    let mut journals = Vec::new();
+    let layouts = [RecordKind::One, RecordKind::Four(0x0201)];
+    let kinds = (0..=6).chain([0x101, 0x104, 0x400, 0xFFFF]);
+    for (kind, layout) in kinds.flat_map(|kind| layouts.map(|layout| (kind, layout))) {
+        for (old, new) in edits {
+            let mut journal = record(layout, 18, old, new);
+            journal.resize(60, 0);
+            journal[4..6].copy_from_slice(&u16::to_le_bytes(kind));
+            for length in 0..=30 {
+                journal[0] = length;
+                journals.extend((0..=30).map(|used| (journal.clone(), used)));
+            }
+        }
+    }
+    journals
 }
 
 /// A list from a file whose length is at the bound or close to it, in a buffer close to it or larger.
@@ -241,7 +407,7 @@ pub fn near_file_bound(random: &mut Random) -> Case {
         _ => most - 5,
     };
     let start = buffers(&file, file_more, JOURNAL_BOUND, random);
-    Case::Edits(continued(start, 5, random))
+    Case::Edits(continued(start, 1..=5, random))
 }
 
 /// A list of long texts, which fill a journal up to the bound.
@@ -254,11 +420,13 @@ pub fn near_journal_bound(random: &mut Random) -> Case {
     };
     let mut list = List {
         start: buffers(file, FILE_BOUND - file.len(), room, random),
+        old_calls: Vec::new(),
         calls: Vec::new(),
     };
+    let old_calls = random.below(4);
     let mut standing = 0;
     let mut old = [1; 3];
-    for _ in 0..random.within(4, 12) {
+    for number in 0..random.within(4, 12) {
         let name = random.below(3);
         let (group, key) = [
             ("Desktop Entry", "Name"),
@@ -271,30 +439,43 @@ pub fn near_journal_bound(random: &mut Random) -> Case {
             _ => Kind::Set,
         };
         let mut made = call(kind, group.as_bytes(), key.as_bytes(), random);
+        if number < old_calls {
+            made = made.old();
+        }
         if kind == Kind::Set {
+            let head = made.record.head();
             // Now and then just as much as there is room for, or a byte more.
             let left = room
                 .min(JOURNAL_BOUND)
-                .saturating_sub(standing + 18 + old[name]);
+                .saturating_sub(standing + head + old[name]);
             let length = match left {
                 0..=10_500 if random.once_in(2) => left + random.below(3),
                 _ => random.within(1, 10_500),
             };
             made.text = vec![random.byte_of(b"abc"); length];
-            standing += 18 + old[name] + length;
+            standing += head + old[name] + length;
             old[name] = length;
         }
-        list.calls.push(made);
+        match number < old_calls {
+            true => list.old_calls.push(made),
+            false => list.calls.push(made),
+        }
     }
     Case::Edits(list)
 }
 
-/// Calls on a file with each size of a buffer, from nothing to `more` bytes over what they need, then an undo, a redo and
-/// one more undo.
-pub fn every_size(file: &[u8], calls: &[Call], more: usize, random: &mut Random) -> Vec<Case> {
+/// Calls on a file, the first of them 01's, with each size of a buffer, from nothing to `more` bytes over what they need, then an
+/// undo, a redo and one more undo.
+pub fn every_size(
+    file: &[u8],
+    old_calls: &[Call],
+    calls: &[Call],
+    more: usize,
+    random: &mut Random,
+) -> Vec<Case> {
     let mut done = buffers(file, 1_000, 1_000, random);
     let mut longest = file.len();
-    for call in calls {
+    for call in old_calls.iter().chain(calls) {
         let _ = call.on_state(&mut done);
         longest = longest.max(done.file_len as usize);
     }
@@ -307,6 +488,7 @@ pub fn every_size(file: &[u8], calls: &[Call], more: usize, random: &mut Random)
         .map(|(file_more, journal_room)| {
             Case::Edits(List {
                 start: buffers(file, file_more, journal_room, random),
+                old_calls: old_calls.to_vec(),
                 calls: [calls, &steps].concat(),
             })
         })

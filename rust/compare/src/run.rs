@@ -107,14 +107,14 @@ pub fn smallest(seed: u64, case: Case, mut difference: String) -> String {
     format!("{difference}\ninput: {}", small.words())
 }
 
-/// Leaves out calls that edit, then parts of the input, large ones first, as long as the case still fails.
+/// Leaves out calls that edit or records, then parts of the input, large ones first, as long as the case still fails.
 fn shrink(mut case: Case, mut fails: impl FnMut(&Case) -> bool) -> Case {
-    let mut call = 0;
-    while let Some(fewer) = case.without(call) {
+    let mut number = 0;
+    while let Some(fewer) = case.without(number) {
         if fails(&fewer) {
             case = fewer;
         } else {
-            call += 1;
+            number += 1;
         }
     }
     let mut tries = 3_000;

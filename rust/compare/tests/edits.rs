@@ -6,8 +6,10 @@ use compare::edits::{Call, Kind, List};
 use compare::random::Random;
 use compare::run::{came_up, run, Outcomes};
 use compare::{files, lists};
+use reference::RecordKind;
 
 const SOUND: u64 = 60_000;
+const OLD: u64 = 40_000;
 const SPOILT: u64 = 20_000;
 const DAMAGED: u64 = 30_000;
 const FOREIGN: u64 = 30_000;
@@ -15,7 +17,7 @@ const LONGER: u64 = 1_000;
 const NEAR_FILE_BOUND: u64 = 400;
 const NEAR_JOURNAL_BOUND: u64 = 400;
 
-const _: () = assert!(SOUND + SPOILT + DAMAGED + FOREIGN >= 50_000);
+const _: () = assert!(SOUND + OLD + SPOILT + DAMAGED + FOREIGN >= 50_000);
 
 /// What calls from a sound start give.
 const FROM_SOUND: Outcomes = &[
@@ -30,6 +32,19 @@ fn sound_starts() {
     run("sound_starts", SOUND, FROM_SOUND, |random| {
         let file = files::sound(random, 3, 4);
         Case::Edits(lists::started(&file, 12, random))
+    });
+}
+
+/// Lists that go on where 01's calls stopped, in the same buffers.
+#[test]
+fn old_starts() {
+    let old: Outcomes = &[("undo of kind 1", &[0]), ("redo of kind 1", &[0])];
+    let outcomes = [FROM_SOUND, old].concat();
+    run("old_starts", OLD, &outcomes, |random| {
+        let file = files::sound(random, 3, 4);
+        let list = lists::started_by_old_calls(&file, 14, random);
+        assert!(!list.old_calls.is_empty() && !list.calls.is_empty());
+        Case::Edits(list)
     });
 }
 
@@ -110,13 +125,18 @@ fn buffers_of_every_size() {
                 for (group, text) in [("Desktop Entry", " Les\n"), ("X", "1"), ("X", "")] {
                     let call = Call {
                         kind,
+                        record: RecordKind::Four(0x1234),
                         group: group.into(),
                         key: key.into(),
                         text: text.into(),
                     };
-                    let before = Call::set("Exec", b"x");
-                    for calls in [&[call.clone()][..], &[before, call]] {
-                        for case in lists::every_size(file, calls, 3, &mut random) {
+                    let before = || Call::set("Exec", b"x");
+                    for (old_calls, calls) in [
+                        (vec![], vec![call.clone()]),
+                        (vec![], vec![before(), call.clone()]),
+                        (vec![before().old()], vec![call]),
+                    ] {
+                        for case in lists::every_size(file, &old_calls, &calls, 3, &mut random) {
                             agrees(&case, &mut asker);
                         }
                     }
@@ -128,17 +148,63 @@ fn buffers_of_every_size() {
     came_up("buffers_of_every_size", &asker.tally, outcomes);
 }
 
-/// What the reference tells of each call from an empty journal on, once all agree on it.
-fn told(file: &[u8], rooms: (usize, usize), calls: Vec<Call>) -> Vec<u32> {
+/// Each call on a journal of one record.
+#[test]
+fn records_of_every_kind_and_length() {
+    let mut remove = Call::set("A", b"");
+    remove.kind = Kind::Remove;
+    let calls = [
+        Call::set("A", b"x"),
+        remove,
+        Call::step(Kind::Undo),
+        Call::step(Kind::Redo),
+    ];
+    let mut asker = Asker::new(6);
+    let mut random = Random::new(6);
+    for (journal, used) in lists::single_records() {
+        for call in &calls {
+            let mut start = lists::buffers(lists::SINGLE, 10, 0, &mut random);
+            (start.journal, start.used) = (journal.clone(), used);
+            if call.kind == Kind::Undo {
+                start.standing = used;
+            }
+            let list = List {
+                start,
+                old_calls: Vec::new(),
+                calls: vec![call.clone()],
+            };
+            agrees(&Case::Edits(list), &mut asker);
+        }
+    }
+    let outcomes: Outcomes = &[
+        ("set", &[0, 14]),
+        ("remove", &[0, 14]),
+        ("undo", &[0, 12, 14]),
+        ("redo", &[0, 12, 14]),
+        ("undo of kind 1", &[0]),
+        ("redo of kind 1", &[0]),
+    ];
+    came_up("records_of_every_kind_and_length", &asker.tally, outcomes);
+}
+
+/// What the reference tells of each call from an empty journal on, once all agree on it. The first so many are 01's.
+fn told(file: &[u8], rooms: (usize, usize), mut calls: Vec<Call>, old: usize) -> Vec<u32> {
     let mut random = Random::new(4);
     let start = lists::buffers(file, rooms.0 - file.len(), rooms.1, &mut random);
+    let old_calls: Vec<Call> = calls.drain(..old).map(Call::old).collect();
     let mut state = start.clone();
-    let told = calls.iter().map(|call| match call.on_state(&mut state) {
+    let all = old_calls.iter().chain(&calls);
+    let told = all.map(|call| match call.on_state(&mut state) {
         Ok(()) => 0,
         Err(refusal) => refusal.number,
     });
     let told = told.collect();
-    agrees(&Case::Edits(List { start, calls }), &mut Asker::new(4));
+    let list = List {
+        start,
+        old_calls,
+        calls,
+    };
+    agrees(&Case::Edits(list), &mut Asker::new(4));
     told
 }
 
@@ -168,10 +234,18 @@ fn the_bound_of_a_file() {
             ]
         };
         let rooms = (room, 65_536);
-        assert_eq!(told(&file(32_768), rooms, calls()), [0, 0, 11, 0, 0, 0]);
-        assert_eq!(told(&file(32_767), rooms, calls()), [0, 0, 0, 12, 0, 0]);
+        for old in 0..3 {
+            assert_eq!(
+                told(&file(32_768), rooms, calls(), old),
+                [0, 0, 11, 0, 0, 0]
+            );
+            assert_eq!(
+                told(&file(32_767), rooms, calls(), old),
+                [0, 0, 0, 12, 0, 0]
+            );
+        }
         let over = (room.max(32_769), 65_536);
-        assert_eq!(told(&file(32_769), over, calls()), [1; 6]);
+        assert_eq!(told(&file(32_769), over, calls(), 0), [1; 6]);
     }
 }
 
@@ -180,10 +254,10 @@ fn the_bound_of_a_file() {
 fn the_bound_of_a_journal() {
     let text = |length: usize| vec![b'v'; length];
     let file = b"[Desktop Entry]\nA=\n";
-    // Three records: 18 + 20,000, then 18 + 20,000 + 1, then 18 + 1 and what is left.
-    let left = 65_536 - (20_018 + 20_019 + 19);
-    for room in [65_536, 65_537, 80_000] {
-        for (more, last) in [(0, 0), (1, 13)] {
+    for (room, old) in [(65_536, 0), (65_537, 1), (80_000, 2)] {
+        // Three records: 20 + 20,000, then 20 + 20,000 + 1, then 20 + 1 and what is left. Those of 01's calls have 2 less.
+        let left = 65_536 - (20_020 + 20_021 + 21) + 2 * old;
+        for (more, last) in [(0, 0), (1, 13), (2, 13)] {
             let calls = vec![
                 Call::set("A", &text(20_000)),
                 Call::set("A", b"1"),
@@ -191,7 +265,7 @@ fn the_bound_of_a_journal() {
                 Call::step(Kind::Undo),
                 Call::step(Kind::Redo),
             ];
-            assert_eq!(told(file, (32_768, room), calls), [0, 0, last, 0, 0]);
+            assert_eq!(told(file, (32_768, room), calls, old), [0, 0, last, 0, 0]);
         }
     }
 }
@@ -202,7 +276,7 @@ fn the_bound_of_a_journal() {
 fn half_a_million_calls() {
     let calls = run("half_a_million_calls", 24_000, FROM_SOUND, |random| {
         let file = files::sound(random, 4, 6);
-        Case::Edits(lists::started(&file, 42, random))
+        Case::Edits(lists::started_by_any(&file, 60, random))
     });
     assert!(calls >= 500_000, "{calls}");
 }

@@ -4,9 +4,10 @@
 use compare::edits::{Call, Kind};
 use compare::random::Random;
 use compare::run::each;
-use compare::{files, pieces};
+use compare::{files, lists, pieces};
 use kveldrim::{Document, Refusal};
 use reference::lines::{read_line, split_lines, Line};
+use reference::RecordKind;
 
 const LISTS: u64 = 60_000;
 const EDITS: u64 = 20_000;
@@ -82,6 +83,7 @@ fn call(kind: Kind, Name { group, key }: &Name, random: &mut Random) -> Call {
     };
     Call {
         kind,
+        record: RecordKind::Four(lists::person(random)),
         group: group.clone(),
         key: key.clone(),
         text,
@@ -92,12 +94,7 @@ fn call(kind: Kind, Name { group, key }: &Name, random: &mut Random) -> Call {
 fn after<'a>(file: &[u8], calls: impl IntoIterator<Item = &'a Call>) -> Result<Vec<u8>, Refusal> {
     let mut document = Document::new(file);
     for call in calls {
-        match call.kind {
-            Kind::Set => document.set(&call.group, &call.key, &call.text)?,
-            Kind::Remove => document.remove(&call.group, &call.key)?,
-            Kind::Undo => document.undo()?,
-            Kind::Redo => document.redo()?,
-        }
+        call.on_buffers(&mut document.buffers())?;
     }
     Ok(document.file().to_vec())
 }

@@ -92,7 +92,7 @@ fn real_files_edited() {
     ];
     let test = "real_files_edited";
     of_files(&real_files(), test, 20, 8, outcomes, |file, random| {
-        Case::Edits(lists::started(&file, 10, random))
+        Case::Edits(lists::started_by_any(&file, 14, random))
     });
 }
 

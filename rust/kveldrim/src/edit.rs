@@ -1,12 +1,18 @@
-//! Set, remove, undo and redo: over two lent buffers, and over a document that owns them.
+//! Set, remove, undo and redo, and who made an edit: over two lent buffers, and over a document that owns them.
 
 use crate::{ffi, told, Refusal, FILE_BOUND};
 
 /// The most bytes that a journal may use.
 pub const JOURNAL_BOUND: usize = 65_536;
 
-/// The bytes of a record before its old and new ones.
-const RECORD_HEAD: usize = 18;
+/// Who makes an edit, by a number of two bytes.
+#[derive(Debug, Clone, Copy, PartialEq, Eq, PartialOrd, Ord, Hash, Default)]
+pub struct Person(pub u16);
+
+impl Person {
+    /// Nobody named, as is told of records of the kind 1.
+    pub const NOBODY: Person = Person(0);
+}
 
 /// The numbers of two buffers: the file's bytes, the journal's bytes that are used, and how many of these stand.
 #[derive(Debug, Clone, Copy, PartialEq, Eq, Default)]
@@ -24,9 +30,9 @@ pub struct Buffers<'a> {
     pub numbers: &'a mut Numbers,
 }
 
-/// Makes a call of the C interface with both buffers, their numbers and the slices, and tells what it answered.
+/// Makes a call of the C interface with both buffers, their numbers, the person and the slices, and tells what it answered.
 macro_rules! edited {
-    ($call:path, $buffers:expr $(, $slice:expr)*) => {{
+    ($call:path, $buffers:expr $(; $person:expr $(, $slice:expr)*)?) => {{
         let Buffers {
             file,
             journal,
@@ -42,7 +48,7 @@ macro_rules! edited {
                 journal.len(),
                 &mut numbers.used,
                 &mut numbers.standing,
-                $($slice.as_ptr(), $slice.len(),)*
+                $($person.0, $($slice.as_ptr(), $slice.len(),)*)?
                 place,
                 byte,
             )
@@ -52,13 +58,19 @@ macro_rules! edited {
 
 impl Buffers<'_> {
     /// Sets a key, asked with its postfix (`Name` or `Name[de]`), to a text: 14, 1 to 6, 14, 7, 10, 8, 6, 11, 13.
-    pub fn set(&mut self, group: &[u8], key: &[u8], text: &[u8]) -> Result<(), Refusal> {
-        edited!(ffi::kveldrim_set, self, group, key, text)
+    pub fn set(
+        &mut self,
+        person: Person,
+        group: &[u8],
+        key: &[u8],
+        text: &[u8],
+    ) -> Result<(), Refusal> {
+        edited!(ffi::kveldrim_set, self; person, group, key, text)
     }
 
     /// Removes a key, asked with its postfix: 14, 1 to 6, 14, 7, 8, 17, 13.
-    pub fn remove(&mut self, group: &[u8], key: &[u8]) -> Result<(), Refusal> {
-        edited!(ffi::kveldrim_remove, self, group, key)
+    pub fn remove(&mut self, person: Person, group: &[u8], key: &[u8]) -> Result<(), Refusal> {
+        edited!(ffi::kveldrim_remove, self; person, group, key)
     }
 
     /// Takes back the latest edit that stands: 14, 1 to 6, 14, 12, 14, 11, 14.
@@ -70,16 +82,41 @@ impl Buffers<'_> {
     pub fn redo(&mut self) -> Result<(), Refusal> {
         edited!(ffi::kveldrim_redo, self)
     }
+
+    /// The person of the journal's record of this number, from 0; the records that wait count too: 14, 12.
+    pub fn person(&self, n: u64) -> Result<Person, Refusal> {
+        person_of(self.journal, *self.numbers, n)
+    }
+}
+
+fn person_of(journal: &[u8], numbers: Numbers, n: u64) -> Result<Person, Refusal> {
+    let mut person = Person::NOBODY;
+    // SAFETY: the slice and the numbers are lent for this call only.
+    told(|place, _| unsafe {
+        ffi::kveldrim_person(
+            journal.as_ptr(),
+            journal.len(),
+            numbers.used,
+            numbers.standing,
+            n,
+            place,
+            &mut person.0,
+        )
+    })?;
+    Ok(person)
 }
 
 /// A file and its journal, with all the room that the rules allow.
 ///
 /// ```
-/// let mut document = kveldrim::Document::new(b"[Desktop Entry]\nName=Read\n");
-/// document.set(kveldrim::DESKTOP_ENTRY, b"Name", b"Lire").unwrap();
+/// use kveldrim::{Document, Person, DESKTOP_ENTRY};
+///
+/// let mut document = Document::new(b"[Desktop Entry]\nName=Read\n");
+/// document.set(Person(7), DESKTOP_ENTRY, b"Name", b"Lire").unwrap();
 /// assert_eq!(document.file(), b"[Desktop Entry]\nName=Lire\n");
 /// document.undo().unwrap();
 /// assert_eq!(document.file(), b"[Desktop Entry]\nName=Read\n");
+/// assert_eq!(document.person(0), Ok(Person(7)));
 /// ```
 #[derive(Debug, Clone)]
 pub struct Document {
@@ -132,13 +169,19 @@ impl Document {
     }
 
     /// As [`Buffers::set`].
-    pub fn set(&mut self, group: &[u8], key: &[u8], text: &[u8]) -> Result<(), Refusal> {
-        self.buffers().set(group, key, text)
+    pub fn set(
+        &mut self,
+        person: Person,
+        group: &[u8],
+        key: &[u8],
+        text: &[u8],
+    ) -> Result<(), Refusal> {
+        self.buffers().set(person, group, key, text)
     }
 
     /// As [`Buffers::remove`].
-    pub fn remove(&mut self, group: &[u8], key: &[u8]) -> Result<(), Refusal> {
-        self.buffers().remove(group, key)
+    pub fn remove(&mut self, person: Person, group: &[u8], key: &[u8]) -> Result<(), Refusal> {
+        self.buffers().remove(person, group, key)
     }
 
     /// As [`Buffers::undo`].
@@ -150,6 +193,11 @@ impl Document {
     pub fn redo(&mut self) -> Result<(), Refusal> {
         self.buffers().redo()
     }
+
+    /// As [`Buffers::person`].
+    pub fn person(&self, n: u64) -> Result<Person, Refusal> {
+        person_of(&self.journal, self.numbers, n)
+    }
 }
 
 /// The bytes at the start of a buffer of at least `room` bytes.
@@ -159,7 +207,8 @@ fn with_room(bytes: &[u8], room: usize) -> Vec<u8> {
     buffer
 }
 
-/// An edit as the journal records it: at a place in the file, old bytes became new ones.
+/// An edit as the journal records it: at a place in the file old bytes became new ones. Who made it is told by
+/// [`Buffers::person`].
 #[derive(Debug, Clone, Copy, PartialEq, Eq)]
 pub struct Edit<'a> {
     pub place: usize,
@@ -168,8 +217,8 @@ pub struct Edit<'a> {
 }
 
 /// The edits of a journal's used bytes, from the first on: records of their whole length (4 bytes, little-endian), the
-/// kind 1 (2 bytes), place, old length and new length (4 bytes each), old bytes, new bytes. Ends early at bytes that are
-/// no such record.
+/// kind 4 (2 bytes), the person (2 bytes), place, old length and new length (4 bytes each), old bytes, new bytes; or of the
+/// kind 1, without the person's bytes. Ends early at bytes that are no such record.
 pub struct Edits<'a> {
     rest: &'a [u8],
 }
@@ -185,20 +234,33 @@ impl<'a> Iterator for Edits<'a> {
     type Item = Edit<'a>;
 
     fn next(&mut self) -> Option<Edit<'a>> {
-        let (head, rest) = self.rest.split_first_chunk::<RECORD_HEAD>()?;
-        let four = |at: usize| -> usize {
-            u32::from_le_bytes([head[at], head[at + 1], head[at + 2], head[at + 3]]) as usize
+        let mut rest = self.rest;
+        let length = four(&mut rest)?;
+        rest = match u16::from_le_bytes(first(&mut rest)?) {
+            1 => rest,
+            4 => rest.get(2..)?,
+            _ => return None,
         };
-        let (length, place, old, new) = (four(0), four(6), four(10), four(14));
-        if head[4..6] != [1, 0] || length != RECORD_HEAD + old + new || new > rest.len() {
+        let place = four(&mut rest)?;
+        let (old, new) = (four(&mut rest)?, four(&mut rest)?);
+        let (old, rest) = rest.split_at_checked(old)?;
+        let (new, rest) = rest.split_at_checked(new)?;
+        if length != self.rest.len() - rest.len() {
             return None;
         }
-        let edit = Edit {
-            place,
-            old: rest.get(..old)?,
-            new: rest.get(old..old + new)?,
-        };
-        self.rest = &self.rest[length..];
-        Some(edit)
+        self.rest = rest;
+        Some(Edit { place, old, new })
     }
+}
+
+/// Takes the number of 4 bytes that the bytes start with.
+fn four(bytes: &mut &[u8]) -> Option<usize> {
+    first(bytes).map(|four| u32::from_le_bytes(four) as usize)
+}
+
+/// Takes the first bytes.
+fn first<const N: usize>(bytes: &mut &[u8]) -> Option<[u8; N]> {
+    let (first, rest) = bytes.split_first_chunk()?;
+    *bytes = rest;
+    Some(*first)
 }

@@ -6,7 +6,7 @@
 pub use crate::expand::kveldrim_expand;
 
 /// The number of the C interface that is declared here; [`kveldrim_abi`] tells that of the library.
-pub const ABI: u32 = 1;
+pub const ABI: u32 = 2;
 
 /// A call that asks of a file: the file, its length, place, byte.
 pub type FileCall = unsafe extern "C" fn(*const u8, usize, *mut u64, *mut u64) -> u32;
@@ -55,6 +55,16 @@ extern "C" {
         from: *mut u64,
         to: *mut u64,
     ) -> u32;
+
+    pub fn kveldrim_person(
+        journal: *const u8,
+        journal_room: usize,
+        used: u64,
+        standing: u64,
+        n: u64,
+        place: *mut u64,
+        person: *mut u16,
+    ) -> u32;
 }
 
 /// Declares calls of the type [`OutputCall`].
@@ -96,8 +106,16 @@ macro_rules! edit_calls {
 }
 
 edit_calls! {
-    kveldrim_set(group: *const u8, group_len: usize, key: *const u8, key_len: usize, text: *const u8, text_len: usize)
-    kveldrim_remove(group: *const u8, group_len: usize, key: *const u8, key_len: usize)
+    kveldrim_set(
+        person: u16,
+        group: *const u8,
+        group_len: usize,
+        key: *const u8,
+        key_len: usize,
+        text: *const u8,
+        text_len: usize
+    )
+    kveldrim_remove(person: u16, group: *const u8, group_len: usize, key: *const u8, key_len: usize)
     kveldrim_undo()
     kveldrim_redo()
 }

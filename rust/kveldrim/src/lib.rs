@@ -1,7 +1,7 @@
 //! Safe bindings over Kveldrim, the proved core for `.desktop` files (Desktop Entry Specification 1.5).
 //!
 //! A file is a slice of bytes; nothing is kept between calls. Every call gives its answer or a [`Refusal`], and a
-//! refusal changes no byte of an output. [`Document`] edits a file with undo.
+//! refusal changes no byte of an output. [`Document`] edits a file with undo, and tells who made an edit.
 //!
 //! ```
 //! let file = b"[Desktop Entry]\nType=Application\nName=Read\nName[fr]=Lire\nExec=view %F\n";
@@ -18,7 +18,7 @@ mod refusal;
 
 use std::ops::Range;
 
-pub use edit::{Buffers, Document, Edit, Edits, Numbers, JOURNAL_BOUND};
+pub use edit::{Buffers, Document, Edit, Edits, Numbers, Person, JOURNAL_BOUND};
 pub use expand::{expand, expand_args, list_of, runs, Arguments};
 pub use refusal::{Kind, Place, Refusal};
 

@@ -1,7 +1,7 @@
 //! The bindings on their own: the examples of the rules, and the words of refusals.
 
 use kveldrim::{
-    Buffers, Document, Edit, Edits, Elements, Kind, Numbers, Place, Refusal, DESKTOP_ENTRY,
+    Buffers, Document, Edit, Edits, Elements, Kind, Numbers, Person, Place, Refusal, DESKTOP_ENTRY,
 };
 
 const T: &[u8] = b"[Desktop Entry]\nType=Application\nName=Lesen\nName[fr]=Lire\nExec=view %F\n";
@@ -55,8 +55,8 @@ fn bytes_of_bad_lines() {
         Err(told)
     );
     let mut document = Document::new(bad);
-    assert_eq!(document.set(DESKTOP_ENTRY, b"Name", b"y"), Err(told));
-    assert_eq!(document.remove(DESKTOP_ENTRY, b"Name"), Err(told));
+    assert_eq!(document.set(SEVEN, DESKTOP_ENTRY, b"Name", b"y"), Err(told));
+    assert_eq!(document.remove(SEVEN, DESKTOP_ENTRY, b"Name"), Err(told));
     assert_eq!(document.undo(), Err(told));
     assert_eq!(document.redo(), Err(told));
     assert_eq!(document.file(), bad);
@@ -118,13 +118,25 @@ fn lists() {
     assert_eq!(Elements::new(b"\x06\0\0\0\x03\0").count(), 0);
 }
 
-/// The record of file T with Name set to `Les`.
-const LES: &[u8] = b"\x1A\0\0\0\x01\0\x26\0\0\0\x05\0\0\0\x03\0\0\0LesenLes";
+const SEVEN: Person = Person(7);
+
+/// The record of file T with Name set to `Les` by person 7.
+const LES: &[u8] = b"\x1C\0\0\0\x04\0\x07\0\x26\0\0\0\x05\0\0\0\x03\0\0\0LesenLes";
+
+/// The same edit in a record of the kind 1.
+const OLD_LES: &[u8] = b"\x1A\0\0\0\x01\0\x26\0\0\0\x05\0\0\0\x03\0\0\0LesenLes";
+
+/// The edit of both.
+const NAME: Edit = Edit {
+    place: 38,
+    old: b"Lesen",
+    new: b"Les",
+};
 
 #[test]
 fn edits_in_lent_buffers() {
     let mut file = [T, b"...."].concat();
-    let mut journal = [b'.'; 30];
+    let mut journal = [b'.'; 32];
     let mut numbers = Numbers {
         file_len: 71,
         used: 0,
@@ -135,12 +147,18 @@ fn edits_in_lent_buffers() {
         journal: &mut journal,
         numbers: &mut numbers,
     };
-    assert_eq!(buffers.set(DESKTOP_ENTRY, b"Name", b"Les"), Ok(()));
-    assert_eq!(buffers.set(DESKTOP_ENTRY, b"Name", b"L"), refused(13, 0));
-    assert_eq!(buffers.set(DESKTOP_ENTRY, b"Icon", b"x"), refused(11, 0));
-    assert_eq!(buffers.remove(DESKTOP_ENTRY, b"Name"), refused(17, 0));
+    let set = |buffers: &mut Buffers, key: &[u8], text: &[u8]| {
+        buffers.set(SEVEN, DESKTOP_ENTRY, key, text)
+    };
+    assert_eq!(set(&mut buffers, b"Name", b"Les"), Ok(()));
+    assert_eq!(set(&mut buffers, b"Name", b"L"), refused(13, 0));
+    assert_eq!(set(&mut buffers, b"Icon", b"x"), refused(11, 0));
     assert_eq!(
-        (&buffers.journal[..26], &buffers.journal[26..]),
+        buffers.remove(SEVEN, DESKTOP_ENTRY, b"Name"),
+        refused(17, 0)
+    );
+    assert_eq!(
+        (&buffers.journal[..28], &buffers.journal[28..]),
         (LES, &b"...."[..])
     );
     assert_eq!(buffers.file[69..], *b"\0\0....");
@@ -149,33 +167,34 @@ fn edits_in_lent_buffers() {
         used,
         standing,
     } = *buffers.numbers;
-    assert_eq!([file_len, used, standing], [69, 26, 26]);
+    assert_eq!([file_len, used, standing], [69, 28, 28]);
     assert_eq!(buffers.undo(), Ok(()));
     assert_eq!(buffers.undo(), refused(12, 0));
     assert_eq!(*buffers.file, [T, b"...."].concat());
-    buffers.numbers.used = 31;
+    assert_eq!(buffers.person(0), Ok(SEVEN));
+    assert_eq!(buffers.person(1), refused(12, 0));
+    buffers.numbers.used = 33;
     assert_eq!(buffers.redo(), refused(14, 0));
+    assert_eq!(buffers.person(0), refused(14, 0));
 }
 
 #[test]
 fn edits_of_a_document() {
     let mut document = Document::new(T);
-    assert_eq!(document.set(DESKTOP_ENTRY, b"Name", b"Les"), Ok(()));
-    assert_eq!((document.journal(), document.standing()), (LES, 26));
-    assert_eq!(document.remove(DESKTOP_ENTRY, b"Exec"), Ok(()));
+    assert_eq!(document.set(SEVEN, DESKTOP_ENTRY, b"Name", b"Les"), Ok(()));
+    assert_eq!((document.journal(), document.standing()), (LES, 28));
+    assert_eq!(
+        document.remove(Person(0x1234), DESKTOP_ENTRY, b"Exec"),
+        Ok(())
+    );
     assert_eq!(document.undo(), Ok(()));
-    let edits: Vec<Edit> = Edits::new(document.journal()).collect();
-    let name = Edit {
-        place: 38,
-        old: b"Lesen",
-        new: b"Les",
-    };
     let exec = Edit {
         place: 56,
         old: b"Exec=view %F\n",
         new: b"",
     };
-    assert_eq!(edits, [name, exec]);
+    let edits: Vec<Edit> = Edits::new(document.journal()).collect();
+    assert_eq!(edits, [NAME, exec]);
     // Kept and taken up another day.
     let (file, journal) = (document.file().to_vec(), document.journal().to_vec());
     let mut later = Document::with_journal(&file, &journal, document.standing());
@@ -186,8 +205,55 @@ fn edits_of_a_document() {
     assert_eq!(long.undo(), refused(1, 0));
     let mut foreign = Document::with_journal(T, &[0; kveldrim::JOURNAL_BOUND + 1], 0);
     assert_eq!(foreign.undo(), refused(14, 0));
-    for cut in 0..LES.len() {
-        assert_eq!(Edits::new(&LES[..cut]).count(), 0);
+    for record in [LES, OLD_LES] {
+        for cut in 0..record.len() {
+            assert_eq!(Edits::new(&record[..cut]).count(), 0);
+        }
+    }
+}
+
+/// The persons of records that stand and wait, and of both kinds.
+#[test]
+fn persons() {
+    let mut document = Document::with_journal(T, OLD_LES, 0);
+    assert_eq!(document.redo(), Ok(()));
+    assert_eq!(
+        document.set(Person(0xFFFF), DESKTOP_ENTRY, b"Name", b"Lesen"),
+        Ok(())
+    );
+    assert_eq!((document.undo(), document.undo()), (Ok(()), Ok(())));
+    assert_eq!(document.file(), T);
+    let told: Vec<_> = (0..3).map(|n| document.person(n)).collect();
+    assert_eq!(
+        told,
+        [Ok(Person::NOBODY), Ok(Person(0xFFFF)), refused(12, 0)]
+    );
+    assert_eq!(document.person(u64::MAX), refused(12, 0));
+    let back = Edit {
+        place: 38,
+        old: b"Les",
+        new: b"Lesen",
+    };
+    let edits: Vec<Edit> = Edits::new(document.journal()).collect();
+    assert_eq!(edits, [NAME, back]);
+    assert_eq!(Document::new(b"no file").person(0), refused(12, 0));
+    // Of the other kind's length, of the other kind, and of neither kind.
+    for (record, length, kind) in [
+        (OLD_LES, 28, 1),
+        (LES, 26, 4),
+        (LES, 28, 1),
+        (OLD_LES, 26, 4),
+        (OLD_LES, 26, 0x101),
+        (LES, 28, 0x104),
+        (LES, 28, 2),
+    ] {
+        let mut record = record.to_vec();
+        record.resize(length, 0);
+        record[0] = length as u8;
+        record[4..6].copy_from_slice(&u16::to_le_bytes(kind));
+        let damaged = Document::with_journal(T, &record, 0);
+        assert_eq!(damaged.person(0), refused(14, 0), "{length} {kind}");
+        assert_eq!(Edits::new(&record).count(), 0, "{length} {kind}");
     }
 }
 

@@ -5,7 +5,7 @@ use std::fs::{self, File};
 use std::path::{Path, PathBuf};
 use std::process::Command;
 
-use kveldrim::{ffi, Kind};
+use kveldrim::{ffi, Document, Kind, Person, DESKTOP_ENTRY};
 
 const HEADERS: [&str; 2] = ["kveldrim.h", "kveldrim_words.h"];
 
@@ -134,7 +134,7 @@ fn the_numbers_defined() {
         ("LIST_BOUND", 65_536),
         ("LOCATION_BOUND", 4_096),
         ("JOURNAL_BOUND", kveldrim::JOURNAL_BOUND),
-        ("RECORD_HEAD", 18),
+        ("RECORD_HEAD", 20),
     ];
     let others = others.map(|(name, number)| (name.to_string(), number));
     assert_eq!(defined, kinds.chain(others).collect());
@@ -174,12 +174,13 @@ fn the_words_of_each_number() {
 
 const LOOKUP: &str = "Example: a lookup";
 const EDIT: &str = "Example: an edit and its undo";
+const PERSONS: &str = "Example: who made each edit";
 
 #[test]
 fn no_example_is_left_out() {
     let headings = HEADER.lines().filter_map(|line| line.strip_prefix(" * "));
     let examples = headings.filter(|heading| heading.starts_with("Example"));
-    assert_eq!(examples.collect::<Vec<_>>(), [LOOKUP, EDIT]);
+    assert_eq!(examples.collect::<Vec<_>>(), [LOOKUP, EDIT, PERSONS]);
 }
 
 /// The code that stands indented under a heading of the header's first comment.
@@ -214,8 +215,8 @@ fn the_example_of_an_edit() {
     let tell = "\nif (refused == 0) fwrite(file, 1, file_len, stdout);\n\
                 fprintf(stderr, \"%s, used %u, standing %u\", kveldrim_words(refused), (unsigned) used, (unsigned) standing);\n";
     let program = C.program("edit", &HEADERS, &(example(EDIT) + tell));
-    // A record has 18 bytes, Lesen and Read.
-    let undone = "accepted, used 27, standing 0";
+    // A record has 20 bytes, Lesen and Read.
+    let undone = "accepted, used 29, standing 0";
     let refused = &format!("{}, used 0, standing 0", Kind::TooLong);
     for (length, told) in [
         (T.len(), undone),
@@ -229,4 +230,26 @@ fn the_example_of_an_edit() {
         let left = if told == undone { &file } else { "" };
         assert!(out == left, "{length} bytes");
     }
+}
+
+#[test]
+fn the_example_of_persons() {
+    let program = C.program("persons", &HEADERS, &(example(EDIT) + &example(PERSONS)));
+    let told = |file: &str| run(&program, file.as_bytes()).0;
+    assert_eq!(told(T), "edit 0: person 7\n");
+    assert_eq!(told("[Desktop Entry"), "");
+}
+
+/// The record in the header is the one that its edit writes.
+#[test]
+fn the_example_of_a_record() {
+    let mut document = Document::new(b"[Desktop Entry]\nType=Application\nName=Lesen\n");
+    let set = document.set(Person(7), DESKTOP_ENTRY, b"Name", b"Les");
+    assert_eq!(set, Ok(()));
+    let digits = document
+        .journal()
+        .iter()
+        .map(|byte| format!(" {byte:02X}"))
+        .collect::<String>();
+    assert!(HEADER.contains(&format!("the record is\n *{digits}.\n")));
 }

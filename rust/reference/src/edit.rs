@@ -2,7 +2,7 @@
 
 use crate::file::{find_asked, find_entry, find_group, read_groups, Entry};
 use crate::lines::{is_group, split_key};
-use crate::records::JOURNAL_HEAD;
+use crate::records::RecordKind;
 use crate::refusal::{Refusal, FILE_BOUND, RECORDS_BOUND};
 use crate::text::escape;
 
@@ -29,9 +29,9 @@ pub struct Edit {
 }
 
 impl Edit {
-    /// The length of the edit's journal record.
-    pub fn record_length(&self) -> u64 {
-        JOURNAL_HEAD + self.old.len() as u64 + self.new.len() as u64
+    /// The length of the edit's journal record, if that is of this kind.
+    pub fn record_length(&self, kind: RecordKind) -> u64 {
+        (kind.head() + self.old.len() + self.new.len()) as u64
     }
 
     /// The file after the edit.
@@ -45,9 +45,10 @@ pub fn replace(file: &[u8], place: usize, length: usize, new: &[u8]) -> Vec<u8> 
     [&file[..place], new, &file[place + length..]].concat()
 }
 
-/// The edit a request makes: 7, 10, 8, 6 for a set, 17, then 11 and 13 by the room there is.
+/// The edit a request makes with a record of this kind: 7, 10, 8, 6 for a set, 17, then 11 and 13 by the room there is.
 pub fn edit_within(
     file: &[u8],
+    kind: RecordKind,
     request: &Request,
     file_room: usize,
     journal_room: usize,
@@ -58,7 +59,7 @@ pub fn edit_within(
     if length > FILE_BOUND.min(file_room as u64) {
         return Err(Refusal::new(11));
     }
-    let standing = u128::from(standing) + u128::from(edit.record_length());
+    let standing = u128::from(standing) + u128::from(edit.record_length(kind));
     if standing > u128::from(RECORDS_BOUND.min(journal_room as u64)) {
         return Err(Refusal::new(13));
     }

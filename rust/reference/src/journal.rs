@@ -1,8 +1,8 @@
-//! Paper 01, "Edits and the journal": set, remove, undo and redo over the lent buffers.
+//! Paper 01, "Edits and the journal": set, remove, undo and redo over the lent buffers. Paper 02, A9: who made an edit.
 
 use crate::edit::{edit_within, replace, Request};
 use crate::file::check;
-use crate::records::{read_journal, write_journal_record, Record};
+use crate::records::{read_journal, write_journal_record, Record, RecordKind};
 use crate::refusal::{Refusal, FILE_BOUND, RECORDS_BOUND};
 
 /// The two lent buffers, the file's length, and the journal's two numbers: bytes used and bytes standing.
@@ -15,31 +15,38 @@ pub struct State {
     pub standing: u64,
 }
 
-/// Set: the value of a key with its postfix becomes the text.
-pub fn set(s: &mut State, group: &[u8], key: &[u8], text: &[u8]) -> Result<(), Refusal> {
+/// Set: the value of a key with its postfix becomes the text. The record is of this kind: 1 in 01's calls, 4 in A9's.
+pub fn set(
+    s: &mut State,
+    kind: RecordKind,
+    group: &[u8],
+    key: &[u8],
+    text: &[u8],
+) -> Result<(), Refusal> {
     let request = Request::Set {
         group: group.to_vec(),
         key: key.to_vec(),
         text: text.to_vec(),
     };
-    perform(s, &request)
+    perform(s, kind, &request)
 }
 
-/// Remove: the line of a key with its postfix goes.
-pub fn remove(s: &mut State, group: &[u8], key: &[u8]) -> Result<(), Refusal> {
+/// Remove: the line of a key with its postfix goes. The record is of this kind, as in [`set`].
+pub fn remove(s: &mut State, kind: RecordKind, group: &[u8], key: &[u8]) -> Result<(), Refusal> {
     let request = Request::Remove {
         group: group.to_vec(),
         key: key.to_vec(),
     };
-    perform(s, &request)
+    perform(s, kind, &request)
 }
 
 /// "A set or remove writes at standing; both numbers are then its record's end."
-fn perform(s: &mut State, request: &Request) -> Result<(), Refusal> {
+fn perform(s: &mut State, kind: RecordKind, request: &Request) -> Result<(), Refusal> {
     let (file, _) = sound(s)?;
-    let edit = edit_within(file, request, s.file.len(), s.journal.len(), s.standing)?;
+    let (file_room, journal_room) = (s.file.len(), s.journal.len());
+    let edit = edit_within(file, kind, request, file_room, journal_room, s.standing)?;
     let result = edit.apply(file);
-    let record = write_journal_record(edit.place as u32, &edit.old, &edit.new);
+    let record = write_journal_record(kind, edit.place as u32, &edit.old, &edit.new);
     let start = s.standing as usize;
     let end = start + record.len();
     s.journal[start..end].copy_from_slice(&record);
@@ -71,20 +78,42 @@ pub fn redo(s: &mut State) -> Result<(), Refusal> {
     Ok(())
 }
 
+/// "A call tells the person of record n, from 0, standing or waiting; without such a record it is 12."
+pub fn person(journal: &[u8], used: u64, standing: u64, n: u64) -> Result<u16, Refusal> {
+    lengths_fit(journal, used, standing)?;
+    let records = sound_records(journal, used, standing)?;
+    let nth = usize::try_from(n).ok().and_then(|n| records.get(n));
+    nth.map(|record| record.kind.person())
+        .ok_or(Refusal::new(12))
+}
+
 /// The file and the records, after "lengths (14)", 1 to 6 of the file, and the "journal (14)".
 fn sound(s: &State) -> Result<(&[u8], Vec<Record<'_>>), Refusal> {
-    let beyond = s.file_len > s.file.len() as u64 || s.used > s.journal.len() as u64;
-    if beyond || s.used > RECORDS_BOUND || s.used < s.standing {
+    if s.file_len > s.file.len() as u64 {
         return Err(Refusal::new(14));
     }
+    lengths_fit(&s.journal, s.used, s.standing)?;
     let file = &s.file[..s.file_len as usize];
     check(file)?;
-    let records = read_journal(&s.journal[..s.used as usize]).ok_or(Refusal::new(14))?;
-    let boundary = |record: &Record| record.end as u64 == s.standing;
-    if s.standing != 0 && !records.iter().any(boundary) {
+    Ok((file, sound_records(&s.journal, s.used, s.standing)?))
+}
+
+/// "Lengths (14)", those of the journal.
+fn lengths_fit(journal: &[u8], used: u64, standing: u64) -> Result<(), Refusal> {
+    if used > journal.len() as u64 || used > RECORDS_BOUND || used < standing {
         return Err(Refusal::new(14));
     }
-    Ok((file, records))
+    Ok(())
+}
+
+/// The records of a journal whose lengths fit; "journal (14)".
+fn sound_records(journal: &[u8], used: u64, standing: u64) -> Result<Vec<Record<'_>>, Refusal> {
+    let records = read_journal(&journal[..used as usize]).ok_or(Refusal::new(14))?;
+    let boundary = |record: &Record| record.end as u64 == standing;
+    if standing != 0 && !records.iter().any(boundary) {
+        return Err(Refusal::new(14));
+    }
+    Ok(records)
 }
 
 /// Undo and redo "ask in turn": the bytes at the place (14), room (11), the result well formed (14).

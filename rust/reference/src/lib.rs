@@ -1,5 +1,5 @@
-//! A second, independent reading of paper 01 in plain Rust, to compare answers with.
-//! It follows the sentences of the paper one by one and does not try to be fast.
+//! A second, independent reading of paper 01, and of A6 and A9 of paper 02, in plain Rust, to compare answers with.
+//! It follows the sentences of the papers one by one and does not try to be fast.
 
 #![forbid(unsafe_code)]
 
@@ -17,7 +17,8 @@ pub mod text;
 pub use book::Book;
 pub use exec::{expand, runs};
 pub use file::{check, complete, lookup};
-pub use journal::{redo, remove, set, undo, State};
+pub use journal::{person, redo, remove, set, undo, State};
 pub use locale::{candidates, choose};
+pub use records::RecordKind;
 pub use refusal::Refusal;
 pub use text::{read_list, read_text, write_text};

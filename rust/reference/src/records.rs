@@ -1,17 +1,40 @@
-//! Paper 01, "Building a command" (records of kinds 2 and 3) and "Edits and the journal" (of kind 1).
+//! Paper 01, "Building a command" (records of kinds 2 and 3) and "Edits and the journal" (of kind 1); paper 02, A9 (of kind 4).
 
 use crate::refusal::{Refusal, RECORDS_BOUND};
 
 /// Length and kind, before the bytes of a record.
 const HEAD: usize = 6;
 
-/// Length, kind, place, old length and new length, before the bytes of a journal record.
-pub const JOURNAL_HEAD: u64 = 18;
+/// The kind of a journal record: 1, as 01's calls write it, or 4, which "carries a person number".
+#[derive(Debug, Clone, Copy, PartialEq, Eq)]
+pub enum RecordKind {
+    One,
+    Four(u16),
+}
 
-/// A journal record: its two ends in the journal, the place in the file, and the old and new bytes.
+impl RecordKind {
+    /// "20 plus both lengths" for kind 4, 18 for kind 1: the bytes that are neither old nor new.
+    pub fn head(self) -> usize {
+        match self {
+            RecordKind::One => 18,
+            RecordKind::Four(_) => 20,
+        }
+    }
+
+    /// "Old journals with kind 1 stay readable as person 0."
+    pub fn person(self) -> u16 {
+        match self {
+            RecordKind::One => 0,
+            RecordKind::Four(person) => person,
+        }
+    }
+}
+
+/// A journal record: its two ends in the journal, its kind, the place in the file, and the old and new bytes.
 pub struct Record<'a> {
     pub start: usize,
     pub end: usize,
+    pub kind: RecordKind,
     pub place: u64,
     pub old: &'a [u8],
     pub new: &'a [u8],
@@ -74,20 +97,21 @@ pub fn write_records(kind: u16, items: &[Vec<u8>], out: &mut [u8]) -> Result<usi
 
 /// The records of the used journal bytes, in order; none if it "is damaged (14)", but for the standing number.
 pub fn read_journal(used: &[u8]) -> Option<Vec<Record<'_>>> {
-    let head = JOURNAL_HEAD as usize;
     let mut records = Vec::new();
     let mut start = 0;
     while start < used.len() {
         let rest = &used[start..];
         let length = u64::from(read_4(rest, 0)?);
-        let kind = read_2(rest, 4)?;
-        let place = u64::from(read_4(rest, 6)?);
-        let old_length = u64::from(read_4(rest, 10)?);
-        let new_length = u64::from(read_4(rest, 14)?);
-        if kind != 1 || length != JOURNAL_HEAD + old_length + new_length {
-            return None;
-        }
-        if length > rest.len() as u64 {
+        let kind = match read_2(rest, 4)? {
+            1 => RecordKind::One,
+            4 => RecordKind::Four(read_2(rest, 6)?),
+            _ => return None,
+        };
+        let head = kind.head();
+        let place = u64::from(read_4(rest, head - 12)?);
+        let old_length = u64::from(read_4(rest, head - 8)?);
+        let new_length = u64::from(read_4(rest, head - 4)?);
+        if length != head as u64 + old_length + new_length || length > rest.len() as u64 {
             return None;
         }
         let middle = head + old_length as usize;
@@ -95,6 +119,7 @@ pub fn read_journal(used: &[u8]) -> Option<Vec<Record<'_>>> {
         records.push(Record {
             start,
             end: start + length,
+            kind,
             place,
             old: &rest[head..middle],
             new: &rest[middle..length],
@@ -104,12 +129,19 @@ pub fn read_journal(used: &[u8]) -> Option<Vec<Record<'_>>> {
     Some(records)
 }
 
-/// "A record: length of the whole record, kind 1, place in the file, old length, new length …".
-pub fn write_journal_record(place: u32, old: &[u8], new: &[u8]) -> Vec<u8> {
-    let length = JOURNAL_HEAD as usize + old.len() + new.len();
+/// "A record: length of the whole record, kind 1, place in the file, old length, new length …"; in kind 4 the person is
+/// "two bytes between kind and place".
+pub fn write_journal_record(kind: RecordKind, place: u32, old: &[u8], new: &[u8]) -> Vec<u8> {
+    let length = kind.head() + old.len() + new.len();
     let mut record = Vec::new();
     record.extend((length as u32).to_le_bytes());
-    record.extend(1u16.to_le_bytes());
+    match kind {
+        RecordKind::One => record.extend(1u16.to_le_bytes()),
+        RecordKind::Four(person) => {
+            record.extend(4u16.to_le_bytes());
+            record.extend(person.to_le_bytes());
+        }
+    }
     record.extend(place.to_le_bytes());
     record.extend((old.len() as u32).to_le_bytes());
     record.extend((new.len() as u32).to_le_bytes());

@@ -3,7 +3,6 @@ use native.Mathlib.Omega.{arith}
 use mathlib.Core.Path.{refl}
 use Prim.Native.Nat.{_≤_}
 use lib.ListN.{take}
-use Rattle.edit.specs.Step.{applied}
 use Rattle.edit.proofs.Applying.{value-edit, entry-edit, line-edit}
 use borrow.Author.Needs.{needs}
 use Rattle.edit.proofs.apply.Statement.{statement}
@@ -35,7 +34,6 @@ returns-3 c =
     rw (← line-edit (take (a .size) (a .file .now)) (a .key .now) (a .text .now) (c .before .before .before .before .before .before .before .before .t3 .given .1) (line-inside (c .before .before .before .before .before) .0)) (c .before .before .before .before .make3 .ensures)
 
 returns-4 : tie.Need-returns-4
-unfolding applied
 returns-4 c = rw (c .before .t4 .given .1) (record { answer = refl; file-is = refl; journal-is = refl })
 
 pub apply-spec : {M : Type 1} → statement M

@@ -12,7 +12,7 @@ slice-aggregate-sound : tie.Need-slice-aggregate-sound
 slice-aggregate-sound c =
     let a = c .before .before .before .before .before .before .args in
     let f = ready-fits (let a = c .before .before .before .before .before .before .args in lent (a .file .now) (a .size) (a .journal .now) (a .used) (a .standing)) (sym (ap answered (c .before .enum-told .given .1)) ∙ c .before .before .before .ready .ensures) in
-    sym (length-take-le (a .used) (a .journal .now) (f .used-fits))
+    sym (length-take-le (a .used) (a .journal .now) (f .numbers .used-fits))
 
 returns : tie.Need-returns
 returns c = opened-sound (let a = c .before .before .before .before .before .before .before .before .args in lent (a .file .now) (a .size) (a .journal .now) (a .used) (a .standing)) (sym (ap answered (c .before .before .before .enum-told .given .1)) ∙ c .before .before .before .before .before .ready .ensures) (sym (c .before .sound .ensures) ∙ c .if1 .taken)

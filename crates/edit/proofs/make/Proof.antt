@@ -10,7 +10,7 @@ use Rattle.base.proofs.Lists.{length-part}
 use Rattle.base.specs.Over.{over}
 use Rattle.record.specs.Record.{recordBytes}
 use Rattle.splice.specs.Edit.{Edit, spliced, replaced, bufferWith}
-use Rattle.journal.specs.Journal.{editRecord}
+use Rattle.journal.specs.Journal.{Person, Authored, by, editRecord}
 use Rattle.change.specs.Target.{newBytes}
 use Rattle.edit.specs.Calls.{State, content}
 use Rattle.edit.specs.Step.{lent}
@@ -23,10 +23,10 @@ use Rattle.edit.proofs.make.Tie as tie
 abbrev held : tie.Start → State
 held c = lent (c .args .file .now) (c .args .size) (c .args .journal .now) 0 (c .args .standing)
 
-abbrev edit : tie.Start → Edit
-edit c = record { place = c .args .place; old = part (c .args .place) (c .args .place + c .args .old) (take (c .args .size) (c .args .file .now)); new = newBytes (c .args .key .now) (c .args .text .now) (c .args .t) }
+abbrev edit : tie.Start → Authored Edit
+edit c = by (Person (c .args .person)) (record { place = c .args .place; old = part (c .args .place) (c .args .place + c .args .old) (take (c .args .size) (c .args .file .now)); new = newBytes (c .args .key .now) (c .args .text .now) (c .args .t) })
 
-sizes : (c : tie.Start) → (length (content (held c)) ≡ c .args .size) × (length (edit c .old) ≡ c .args .old)
+sizes : (c : tie.Start) → (length (content (held c)) ≡ c .args .size) × (length (edit c .what .old) ≡ c .args .old)
 sizes c =
     let l = length-take-le (c .args .size) (c .args .file .now) (omega arith) in
     (l, omega (arith, length-part (c .args .place) (c .args .place + c .args .old) (take (c .args .size) (c .args .file .now)) (omega arith)))
@@ -68,9 +68,9 @@ returns-5 c =
     let o : part (w .args .place) (w .args .place + w .args .old) (take (w .args .size) (w .args .file .now)) ≡ part (w .args .place) (w .args .place + w .args .old) (w .args .file .now) =
     part-take (w .args .place) (w .args .place + w .args .old) (w .args .size) (w .args .file .now) (omega arith) in
     all-made (held w) (edit w) (omega (arith, l .0, l .1)) (omega (arith, l .0, l .1, n)) (omega (arith, l .0, l .1, n)) (omega (arith, l .1, n)) (omega (arith, l .1, n))
-    (omega (arith, l .0, l .1, n, length-spliced (edit w) (content (held w)) (omega (arith, l .0, l .1)))) (omega (arith, l .1, n))
-    (c .before .before .before .before .write .ensures .0 ∙ ap (λ (k : ℕ). bufferWith (w .args .file .now) (w .args .size) (replaced (w .args .place) k (edit w .new) (content (held w)))) (sym (l .1)))
-    (c .before .before .before .before .write .ensures .1 ∙ ap (λ (x : List ℕ). over (w .args .journal .now) (w .args .standing) (recordBytes (editRecord (record { place = w .args .place; old = x; new = edit w .new })))) (sym o))
+    (omega (arith, l .0, l .1, n, length-spliced (edit w .what) (content (held w)) (omega (arith, l .0, l .1)))) (omega (arith, l .1, n))
+    (c .before .before .before .before .write .ensures .0 ∙ ap (λ (k : ℕ). bufferWith (w .args .file .now) (w .args .size) (replaced (w .args .place) k (edit w .what .new) (content (held w)))) (sym (l .1)))
+    (c .before .before .before .before .write .ensures .1 ∙ ap (λ (x : List ℕ). over (w .args .journal .now) (w .args .standing) (recordBytes (editRecord (by (Person (w .args .person)) (record { place = w .args .place; old = x; new = edit w .what .new }))))) (sym o))
 
 pub make-spec : {M : Type 1} → statement M
 make-spec =

@@ -4,6 +4,7 @@ use mathlib.Core.Path.{_≡_, sym, ap, _∙_}
 use lib.Seq.{length-take-le}
 use Rattle.fault.specs.Answer.{given}
 use Rattle.wellformed.specs.Pass.{answered}
+use Rattle.journal.specs.Journal.{Person, by}
 use Rattle.change.specs.Change.{Set}
 use Rattle.edit.specs.Calls as calls
 use Rattle.edit.specs.Calls.{State}
@@ -29,17 +30,17 @@ apply-requires : tie.Need-apply-requires
 apply-requires c κs =
     let f = fits (c .before .before .before .before) in
     let w = c .before .before .before .before .before .before .before .before .before .before .before .before .before .before in
-    (search needs, f .size-bound, omega (arith, f .standing-fits, f .used-bound), rw (length-take-le (w .args .size) (w .args .file .now) (f .size-fits)) at (c .before .before .set-target .ensures .inside))
+    (search needs, f .size-bound, omega (arith, f .numbers .standing-fits, f .numbers .used-bound), rw (length-take-le (w .args .size) (w .args .file .now) (f .size-fits)) at (c .before .before .set-target .ensures .inside))
 
 returns : tie.Need-returns
 returns c =
     let w = c .before .before .before .before .before .before .before .before .before .before .before in
-    not-opened (held w) (Set (w .args .group .now) (w .args .key .now) (w .args .text .now)) (sym (ap answered (c .before .f .given .1)) ∙ c .before .before .before .check-lent .ensures)
+    not-opened (held w) (by (Person (w .args .person)) (Set (w .args .group .now) (w .args .key .now) (w .args .text .now))) (sym (ap answered (c .before .f .given .1)) ∙ c .before .before .before .check-lent .ensures)
 
 returns-2 : tie.Need-returns-2
 returns-2 c =
     let w = c .before .before .before .before .before .before .before .before .before .before .before .before .before .before .before .before .before .before .before in
-    was-opened (held w) (Set (w .args .group .now) (w .args .key .now) (w .args .text .now)) (opened (c .before .before .before .before .before .before .before .before .before)) (c .before .before .before .before .before .before .before .set-target .ensures) (c .before .before .before .before .apply .ensures)
+    was-opened (held w) (by (Person (w .args .person)) (Set (w .args .group .now) (w .args .key .now) (w .args .text .now))) (opened (c .before .before .before .before .before .before .before .before .before)) (c .before .before .before .before .before .before .before .set-target .ensures) (c .before .before .before .before .apply .ensures)
 
 pub set-spec : {M : Type 1} → statement M
 set-spec =

@@ -1,24 +1,20 @@
 -- `edit::undo` meets its contract: the calls that led to each return say how far the definition goes. Assumes nothing.
 use native.Mathlib.Omega.{arith}
 use mathlib.Core.Path.{sym}
-use lib.ListN.{take}
 use lib.Seq.{length-take-le}
 use borrow.Author.Needs.{needs}
 use Rattle.edit.proofs.Opening.{ready-fits}
-use Rattle.edit.proofs.Turning.{undo-steps, made-unready, made-unread, made-again, edit-length}
+use Rattle.edit.proofs.Turning.{undo-steps, made-unready, made-unread, made-again}
 use Rattle.edit.proofs.undo.Statement.{statement}
 use Rattle.edit.proofs.undo.Tie as tie
 
 slice-aggregate-edits : tie.Need-slice-aggregate-edits
-slice-aggregate-edits c = sym (length-take-le _ _ (ready-fits _ (rw (c .before .enum-told .given .1) at (c .before .before .before .ready .ensures)) .used-fits))
-
-sub-again : tie.Need-sub-again
-sub-again c = rw (c .before .before .place .given .1) at (c .before .before .before .before .last-standing .ensures .1) .0
+slice-aggregate-edits c = sym (length-take-le _ _ (ready-fits _ (rw (c .before .enum-told .given .1) at (c .before .before .before .ready .ensures)) .numbers .used-fits))
 
 again-requires : tie.Need-again-requires
 again-requires c κs =
     let i = ready-fits _ (rw (c .before .before .before .before .before .before .enum-told .given .1) at (c .before .before .before .before .before .before .before .before .ready .ensures)) in
-    let b = rw (c .before .before .place .given .1) at (c .before .before .before .before .last-standing .ensures .1) in
+    let b = rw (c .before .before .start .given .1) at (c .before .before .before .before .last-standing .ensures .1) in
     ((i .size-fits, i .size-bound), (omega arith, omega arith, omega arith, omega arith))
 
 returns : tie.Need-returns
@@ -32,12 +28,9 @@ returns-3 c = made-unread (undo-steps _) (rw (c .before .before .before .before 
 
 returns-4 : tie.Need-returns-4
 returns-4 c =
-    let a = c .before .before .before .before .before .before .before .before .before .before .before .before .before .before .before .args in
-    let p = c .before .before .before .before .before .place .given in
-    let q = rw (p .1) at (c .before .before .before .before .before .before .before .last-standing .ensures) in
-    let l = edit-length (take (a .used) (a .journal .now)) (p .0 .0) (p .0 .1 .0) (p .0 .1 .1 .0) (p .0 .1 .1 .1 .0) (q .1 .1) (q .1 .2) (q .1 .3) in
+    let q = rw (c .before .before .before .before .before .start .given .1) at (c .before .before .before .before .before .before .before .last-standing .ensures) in
     let e = c .before .before .again .ensures in
-    made-again (undo-steps _) (rw (c .before .before .before .before .before .before .before .before .before .enum-told .given .1) at (c .before .before .before .before .before .before .before .before .before .before .before .ready .ensures)) (q .0) (omega arith) (e .0) (e .1)
+    made-again (undo-steps _) (rw (c .before .before .before .before .before .before .before .before .before .enum-told .given .1) at (c .before .before .before .before .before .before .before .before .before .before .before .ready .ensures)) (q .0) (e .0) (e .1)
 
 pub undo-spec : {M : Type 1} → statement M
 undo-spec =
@@ -51,7 +44,6 @@ undo-spec =
     (λ c. search needs)
     (λ c. search needs)
     (λ c. search needs)
-    sub-again
     again-requires
     (λ c. search needs)
     returns

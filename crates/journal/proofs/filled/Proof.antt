@@ -3,7 +3,7 @@ use native.Mathlib.Omega.{arith}
 use borrow.Author.Needs.{needs}
 use Prim.Native.Nat.{_-_}
 use lib.ListN.{length}
-use Rattle.journal.proofs.Walking.{Filling, fill-begin, fill-damaged, fill-next, fill-done}
+use Rattle.journal.proofs.Walking.{further, Filling, fill-begin, fill-damaged, fill-next, fill-done}
 use Rattle.journal.proofs.filled.Statement.{statement}
 use Rattle.journal.proofs.filled.Tie as tie
 
@@ -27,12 +27,13 @@ returns-2 c =
 loop-less : tie.Need-loop-less Inv-loop μ-loop
 loop-less c =
     let r = rw (c .before .end .given .1) at (c .before .before .before .read-edit .ensures) in
-    omega arith
+    omega (arith, further (r .1), r .1 .inside)
 
 loop-again : tie.Need-loop-again Inv-loop μ-loop
 loop-again c =
     let k = c .before .before .before in
-    fill-next (k .before .loop .inv) (rw (c .before .end .given .1) at (k .read-edit .ensures))
+    let r = rw (c .before .end .given .1) at (k .read-edit .ensures) in
+    fill-next (k .before .loop .inv) (r .1)
 
 pub filled-spec : {M : Type 1} → statement M
 filled-spec =

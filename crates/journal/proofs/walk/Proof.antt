@@ -3,7 +3,7 @@ use native.Mathlib.Omega.{arith}
 use borrow.Author.Needs.{needs}
 use mathlib.Core.Path.{_∙_, sym}
 use Prim.Native.Nat.{_-_}
-use Rattle.journal.proofs.Walking.{Walking, walk-begin, walk-damaged, walk-short, walk-beyond, walk-next, walk-unsound, walk-sound}
+use Rattle.journal.proofs.Walking.{further, Walking, walk-begin, walk-damaged, walk-short, walk-beyond, walk-next, walk-unsound, walk-sound}
 use Rattle.journal.proofs.walk.Statement.{statement}
 use Rattle.journal.proofs.walk.Tie as tie
 
@@ -28,19 +28,21 @@ returns-3 : tie.Need-returns-3 Inv-loop μ-loop
 returns-3 c =
     let e = c .before .before in
     let k = e .before .before in
-    walk-beyond (k .before .before .loop .inv) (rw (e .end .given .1) at (k .read-edit .ensures)) (omega arith) (c .if1 .taken)
+    let r = rw (e .end .given .1) at (k .read-edit .ensures) in
+    walk-beyond (k .before .before .loop .inv) (r .1) (omega arith) (c .if1 .taken)
 
 loop-less : tie.Need-loop-less Inv-loop μ-loop
 loop-less c =
     let e = c .before .before in
     let r = rw (e .end .given .1) at (e .before .before .read-edit .ensures) in
-    omega arith
+    omega (arith, further (r .1))
 
 loop-again : tie.Need-loop-again Inv-loop μ-loop
 loop-again c =
     let e = c .before .before in
     let k = e .before .before in
-    walk-next (k .before .before .loop .inv) (rw (e .end .given .1) at (k .read-edit .ensures)) (c .if1 .left)
+    let r = rw (e .end .given .1) at (k .read-edit .ensures) in
+    walk-next (k .before .before .loop .inv) (r .1) (c .if1 .left)
 
 returns-4 : tie.Need-returns-4 Inv-loop μ-loop
 returns-4 c =

@@ -1,5 +1,5 @@
 -- `kveldrim_expand` meets its contract: it is the call. Assumes nothing.
-use Rattle.kveldrim.proofs.Telling.{same-length}
+use Rattle.kveldrim.proofs.Telling.{same-number}
 use borrow.Author.Needs.{needs}
 use Rattle.kveldrim.proofs.kveldrim_expand.Statement.{statement}
 use Rattle.kveldrim.proofs.kveldrim_expand.Tie as tie
@@ -11,4 +11,4 @@ kveldrim-expand-spec =
     (λ c κs. search needs)
     (λ c κs. search needs)
     (λ c. search needs)
-    (λ c. (search same-length, search needs)))
+    (λ c. (search same-number, search needs)))

@@ -1,6 +1,6 @@
 -- `kveldrim_read_list` meets its contract: it is the call. Assumes nothing.
-use Rattle.kveldrim.proofs.Telling.{same-text}
-use Rattle.kveldrim.proofs.Texts.{list-zero}
+use Rattle.kveldrim.proofs.Telling.{same-no-byte}
+use Rattle.kveldrim.proofs.NoByte.{list-zero}
 use borrow.Author.Needs.{needs}
 use Rattle.kveldrim.proofs.kveldrim_read_list.Statement.{statement}
 use Rattle.kveldrim.proofs.kveldrim_read_list.Tie as tie
@@ -12,4 +12,4 @@ kveldrim-read-list-spec =
     (λ c κs. search needs)
     (λ c κs. search needs)
     (λ c. search needs)
-    (λ c. (search (same-text, list-zero), search needs)))
+    (λ c. (search (same-no-byte, list-zero), search needs)))

@@ -1,6 +1,6 @@
 -- `kveldrim_read_text` meets its contract: it is the call. Assumes nothing.
-use Rattle.kveldrim.proofs.Telling.{same-text}
-use Rattle.kveldrim.proofs.Texts.{read-zero}
+use Rattle.kveldrim.proofs.Telling.{same-no-byte}
+use Rattle.kveldrim.proofs.NoByte.{read-zero}
 use borrow.Author.Needs.{needs}
 use Rattle.kveldrim.proofs.kveldrim_read_text.Statement.{statement}
 use Rattle.kveldrim.proofs.kveldrim_read_text.Tie as tie
@@ -12,4 +12,4 @@ kveldrim-read-text-spec =
     (λ c κs. search needs)
     (λ c κs. search needs)
     (λ c. search needs)
-    (λ c. (search (same-text, read-zero), search needs)))
+    (λ c. (search (same-no-byte, read-zero), search needs)))

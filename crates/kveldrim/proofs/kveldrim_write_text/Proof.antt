@@ -1,6 +1,6 @@
 -- `kveldrim_write_text` meets its contract: it is the call. Assumes nothing.
-use Rattle.kveldrim.proofs.Telling.{same-text}
-use Rattle.kveldrim.proofs.Texts.{write-zero}
+use Rattle.kveldrim.proofs.Telling.{same-no-byte}
+use Rattle.kveldrim.proofs.NoByte.{write-zero}
 use borrow.Author.Needs.{needs}
 use Rattle.kveldrim.proofs.kveldrim_write_text.Statement.{statement}
 use Rattle.kveldrim.proofs.kveldrim_write_text.Tie as tie
@@ -12,4 +12,4 @@ kveldrim-write-text-spec =
     (λ c κs. search needs)
     (λ c κs. search needs)
     (λ c. search needs)
-    (λ c. (search (same-text, write-zero), search needs)))
+    (λ c. (search (same-no-byte, write-zero), search needs)))

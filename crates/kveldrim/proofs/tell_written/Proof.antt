@@ -12,4 +12,4 @@ tell-written-spec =
     (λ c. search needs)
     (λ c κs. search needs)
     (λ c. search needs)
-    (λ c. rw (c .before .before .before .before .w2 .given .1) (record { returned = record { code-is = c .refuse .ensures .0; place-is = c .refuse .ensures .1; byte-is = c .refuse .ensures .2 }; written-is = refl })))
+    (λ c. rw (c .before .before .before .before .w2 .given .1) (record { returned = record { code-is = c .refuse .ensures .0; place-is = c .refuse .ensures .1; byte-is = c .refuse .ensures .2 }; number-is = refl })))

@@ -9,7 +9,7 @@ use std::process::Command;
 use compare::files;
 use compare::pieces;
 use compare::random::{mix, Random};
-use kveldrim::{lookup, Document};
+use kveldrim::{lookup, Document, Person};
 
 use super::{merged, Failure};
 use crate::kills::Place;
@@ -76,7 +76,9 @@ fn after(base: &[u8], sets: &[Set], copies: &[usize]) -> Vec<u8> {
     let mut document = Document::new(base);
     for copy in copies {
         for Set { name, text, .. } in sets.iter().filter(|set| set.copy == *copy) {
-            document.set(&name.0, &name.1, text).unwrap();
+            document
+                .set(Person::NOBODY, &name.0, &name.1, text)
+                .unwrap();
         }
     }
     document.file().to_vec()

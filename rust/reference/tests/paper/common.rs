@@ -1,10 +1,13 @@
-//! What the tests share: file T, buffers, lists, and short forms of the calls.
+//! What the tests share: file T, a person, buffers, lists, and short forms of the calls.
 
-use reference::{Refusal, State};
+use reference::{RecordKind, Refusal, State};
 
 /// File T of paper 01, 71 bytes.
 pub const T: &[u8] =
     b"[Desktop Entry]\nType=Application\nName=Lesen\nName[fr]=Lire\nExec=view %F\n";
+
+/// The records of person 7.
+pub const SEVEN: RecordKind = RecordKind::Four(7);
 
 /// A refusal with its number and place.
 pub fn refused<A>(number: u32, place: u64) -> Result<A, Refusal> {
@@ -59,11 +62,15 @@ pub fn records<A: AsRef<[u8]>>(kind: u16, items: &[A]) -> Vec<u8> {
     list
 }
 
-/// A journal record with its own length and kind.
-pub fn journal_record(place: u32, old: &[u8], new: &[u8]) -> Vec<u8> {
+/// A journal record of a kind, with its own length.
+pub fn journal_record(kind: RecordKind, place: u32, old: &[u8], new: &[u8]) -> Vec<u8> {
+    let (length, front) = match kind {
+        RecordKind::One => (18, vec![1, 0]),
+        RecordKind::Four(person) => (20, [[4, 0], person.to_le_bytes()].concat()),
+    };
     let mut record = Vec::new();
-    record.extend((18 + old.len() as u32 + new.len() as u32).to_le_bytes());
-    record.extend(1u16.to_le_bytes());
+    record.extend((length + old.len() as u32 + new.len() as u32).to_le_bytes());
+    record.extend(front);
     record.extend(place.to_le_bytes());
     record.extend((old.len() as u32).to_le_bytes());
     record.extend((new.len() as u32).to_le_bytes());

@@ -1,7 +1,7 @@
 //! Paper 01, "Examples to hold it to" and "Easy wrong turns".
 
 use crate::common::*;
-use reference::{check, choose, complete, expand, lookup, redo, remove, set, undo};
+use reference::{check, choose, complete, expand, lookup, redo, remove, set, undo, RecordKind};
 
 #[test]
 fn empty_file_and_file_t() {
@@ -42,16 +42,25 @@ fn text_written_and_read() {
 
 #[test]
 fn set_name_in_t() {
-    let mut s = state(T, 71, 26);
-    assert_eq!(set(&mut s, b"Desktop Entry", b"Name", b"Les"), Ok(()));
-    assert_eq!(s.file_len, 69);
-    assert_eq!((s.used, s.standing), (26, 26));
-    let record = [
-        0x1A, 0, 0, 0, 1, 0, 0x26, 0, 0, 0, 5, 0, 0, 0, 3, 0, 0, 0, 0x4C, 0x65, 0x73, 0x65, 0x6E,
-        0x4C, 0x65, 0x73,
+    let rest = [
+        0x26, 0, 0, 0, 5, 0, 0, 0, 3, 0, 0, 0, 0x4C, 0x65, 0x73, 0x65, 0x6E, 0x4C, 0x65, 0x73,
     ];
-    assert_eq!(s.journal, record);
-    assert_eq!(&s.file[69..], [0, 0]);
+    // 01's record, and that of A9.
+    let front = [0x1A, 0, 0, 0, 1, 0];
+    let front_of_four = [0x1C, 0, 0, 0, 4, 0, 0x34, 0x12];
+    for (kind, front) in [
+        (RecordKind::One, &front[..]),
+        (RecordKind::Four(0x1234), &front_of_four[..]),
+    ] {
+        let record = [front, &rest].concat();
+        let length = record.len() as u64;
+        let mut s = state(T, 71, record.len());
+        assert_eq!(set(&mut s, kind, b"Desktop Entry", b"Name", b"Les"), Ok(()));
+        assert_eq!(s.file_len, 69);
+        assert_eq!((s.used, s.standing), (length, length));
+        assert_eq!(s.journal, record);
+        assert_eq!(&s.file[69..], [0, 0]);
+    }
 }
 
 #[test]
@@ -97,12 +106,12 @@ fn file_of_the_greatest_length() {
 fn edit_to_the_greatest_length() {
     let text = vec![b'x'; 32_768 - 71 + 5];
     let mut s = state(T, 40_000, 65_536);
-    assert_eq!(set(&mut s, b"Desktop Entry", b"Name", &text), Ok(()));
+    assert_eq!(set(&mut s, SEVEN, b"Desktop Entry", b"Name", &text), Ok(()));
     assert_eq!(s.file_len, 32_768);
     let mut s = state(T, 40_000, 65_536);
     let text = vec![b'x'; 32_768 - 71 + 6];
     assert_eq!(
-        set(&mut s, b"Desktop Entry", b"Name", &text),
+        set(&mut s, SEVEN, b"Desktop Entry", b"Name", &text),
         refused(11, 0)
     );
     assert_eq!(s, state(T, 40_000, 65_536));
@@ -110,14 +119,17 @@ fn edit_to_the_greatest_length() {
 
 #[test]
 fn journal_with_the_records_room() {
-    let mut s = state(T, 71, 26);
-    assert_eq!(set(&mut s, b"Desktop Entry", b"Name", b"Les"), Ok(()));
-    let mut s = state(T, 71, 25);
+    let mut s = state(T, 71, 28);
     assert_eq!(
-        set(&mut s, b"Desktop Entry", b"Name", b"Les"),
+        set(&mut s, SEVEN, b"Desktop Entry", b"Name", b"Les"),
+        Ok(())
+    );
+    let mut s = state(T, 71, 27);
+    assert_eq!(
+        set(&mut s, SEVEN, b"Desktop Entry", b"Name", b"Les"),
         refused(13, 0)
     );
-    assert_eq!(s, state(T, 71, 25));
+    assert_eq!(s, state(T, 71, 27));
 }
 
 #[test]
@@ -139,7 +151,10 @@ fn put_in_text_is_not_searched() {
 #[test]
 fn spaces_at_the_ends_of_a_value() {
     let mut s = state(T, 100, 100);
-    assert_eq!(set(&mut s, b"Desktop Entry", b"Name", b" x "), Ok(()));
+    assert_eq!(
+        set(&mut s, SEVEN, b"Desktop Entry", b"Name", b" x "),
+        Ok(())
+    );
     let (start, end) = lookup(file_of(&s), b"Desktop Entry", b"Name").unwrap();
     assert_eq!(&s.file[start..end], b"\\sx ");
     assert_eq!(read(b"\\sx "), Ok(b" x ".to_vec()));
@@ -148,13 +163,13 @@ fn spaces_at_the_ends_of_a_value() {
 #[test]
 fn undo_takes_an_inserted_line_away() {
     let mut s = state(T, 100, 100);
-    assert_eq!(set(&mut s, b"Desktop Entry", b"Icon", b"i"), Ok(()));
+    assert_eq!(set(&mut s, SEVEN, b"Desktop Entry", b"Icon", b"i"), Ok(()));
     assert_eq!(file_of(&s), [T, b"Icon=i\n"].concat());
     assert_eq!(undo(&mut s), Ok(()));
     assert_eq!(file_of(&s), T);
     assert_eq!(undo(&mut s), refused(12, 0));
     assert_eq!(redo(&mut s), Ok(()));
     assert_eq!(redo(&mut s), refused(12, 0));
-    assert_eq!(remove(&mut s, b"Desktop Entry", b"Icon"), Ok(()));
+    assert_eq!(remove(&mut s, SEVEN, b"Desktop Entry", b"Icon"), Ok(()));
     assert_eq!(file_of(&s), T);
 }

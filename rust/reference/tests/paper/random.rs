@@ -1,11 +1,11 @@
-//! Seeded random calls: the journal and the book agree, undo restores, and no input stops a call.
+//! Seeded random calls: the journal and the book agree, also on who made each edit, undo restores, and no input stops a call.
 
 use crate::common::*;
 use reference::lines::{read_line, Line};
 use reference::text::utf8_fault;
 use reference::{
-    check, choose, complete, expand, lookup, read_list, read_text, redo, remove, set, undo,
-    write_text, Book, Refusal, State,
+    check, choose, complete, expand, lookup, person, read_list, read_text, redo, remove, set, undo,
+    write_text, Book, RecordKind, Refusal, State,
 };
 
 /// A xorshift generator.
@@ -78,22 +78,29 @@ const TEXTS: [&[u8]; 8] = [
 
 /// One call: a set, remove, undo or redo.
 enum Call {
-    Set(&'static [u8], &'static [u8], &'static [u8]),
-    Remove(&'static [u8], &'static [u8]),
+    Set(RecordKind, &'static [u8], &'static [u8], &'static [u8]),
+    Remove(RecordKind, &'static [u8], &'static [u8]),
     Undo,
     Redo,
 }
 
 impl Call {
-    /// A random call.
+    /// A random call of somebody.
     fn random(random: &mut Random) -> Call {
+        let person = *random.pick(&[&0, &1, &255, &256, &0xFFFF]);
+        Call::of_kind(random, RecordKind::Four(person))
+    }
+
+    /// A random call; what it records is of this kind.
+    fn of_kind(random: &mut Random, kind: RecordKind) -> Call {
         match random.below(10) {
             0..=3 => Call::Set(
+                kind,
                 random.pick(&GROUPS),
                 random.pick(&KEYS),
                 random.pick(&TEXTS),
             ),
-            4..=5 => Call::Remove(random.pick(&GROUPS), random.pick(&KEYS)),
+            4..=5 => Call::Remove(kind, random.pick(&GROUPS), random.pick(&KEYS)),
             6..=7 => Call::Undo,
             _ => Call::Redo,
         }
@@ -102,8 +109,8 @@ impl Call {
     /// The call over lent buffers.
     fn over_state(&self, s: &mut State) -> Result<(), Refusal> {
         match self {
-            Call::Set(group, key, text) => set(s, group, key, text),
-            Call::Remove(group, key) => remove(s, group, key),
+            Call::Set(kind, group, key, text) => set(s, *kind, group, key, text),
+            Call::Remove(kind, group, key) => remove(s, *kind, group, key),
             Call::Undo => undo(s),
             Call::Redo => redo(s),
         }
@@ -112,8 +119,8 @@ impl Call {
     /// The call fed to the book.
     fn over_book(&self, book: &mut Book) -> Result<(), Refusal> {
         match self {
-            Call::Set(group, key, text) => book.set(group, key, text),
-            Call::Remove(group, key) => book.remove(group, key),
+            Call::Set(kind, group, key, text) => book.set(*kind, group, key, text),
+            Call::Remove(kind, group, key) => book.remove(*kind, group, key),
             Call::Undo => book.undo(),
             Call::Redo => book.redo(),
         }
@@ -140,9 +147,19 @@ fn ask_buffers(before: &State, after: &State, call: &Call) {
     }
 }
 
+/// The persons of all records, and 12 for the number behind the last one.
+fn persons_of(s: &State) -> Vec<u16> {
+    let told = |n| person(&s.journal, s.used, s.standing, n);
+    let persons: Vec<u16> = (0..).map_while(|n| told(n).ok()).collect();
+    assert_eq!(told(persons.len() as u64), refused(12, 0));
+    persons
+}
+
+/// Lists of calls that start with some of 01's.
 #[test]
 fn journal_and_book_agree() {
     let mut seen = [0; 18];
+    let mut mixed = 0;
     for seed in 1..=120 {
         let mut random = Random::seeded(seed);
         let start = random.pick(&STARTS);
@@ -150,13 +167,22 @@ fn journal_and_book_agree() {
         let journal_room = random.below(600);
         let mut s = state(start, file_room, journal_room);
         let mut book = Book::new(start, file_room, journal_room);
-        for _ in 0..80 {
-            let call = Call::random(&mut random);
+        let old_calls = random.below(20);
+        for step in 0..80 {
+            let call = if step < old_calls {
+                Call::of_kind(&mut random, RecordKind::One)
+            } else {
+                Call::random(&mut random)
+            };
             let before = s.clone();
             let answer = call.over_state(&mut s);
             assert_eq!(answer, call.over_book(&mut book));
             assert_eq!(file_of(&s), book.file());
             assert_eq!(s.standing, book.standing());
+            let persons = persons_of(&s);
+            assert_eq!(persons, book.persons());
+            let of_kind_one = s.journal.get(4) == Some(&1);
+            mixed += usize::from(of_kind_one && persons.iter().any(|person| *person > 0));
             match answer {
                 Ok(()) => ask_buffers(&before, &s, &call),
                 Err(refusal) => {
@@ -168,6 +194,7 @@ fn journal_and_book_agree() {
             assert_eq!(check(file_of(&s)), Ok(()));
         }
     }
+    assert!(mixed > 500);
     for number in [6, 7, 8, 10, 11, 12, 13, 17] {
         assert!(seen[number] > 0, "refusal {number} never came");
     }
@@ -187,12 +214,12 @@ fn undo_after_an_edit_restores() {
             }
             let mut back = s.clone();
             match call {
-                Call::Set(group, key, text) => {
+                Call::Set(_, group, key, text) => {
                     let (start, end) = lookup(file_of(&s), group, key).unwrap();
                     assert_eq!(read(&s.file[start..end]), Ok(text.to_vec()));
                     assert_eq!(undo(&mut back), Ok(()));
                 }
-                Call::Remove(group, key) => {
+                Call::Remove(_, group, key) => {
                     assert_eq!(lookup(file_of(&s), group, key), refused(8, 0));
                     assert_eq!(undo(&mut back), Ok(()));
                 }
@@ -263,8 +290,8 @@ fn hostile_states_are_answered() {
             }
         }
         for call in [
-            Call::Set(GROUPS[0], KEYS[0], TEXTS[3]),
-            Call::Remove(GROUPS[0], KEYS[1]),
+            Call::Set(SEVEN, GROUPS[0], KEYS[0], TEXTS[3]),
+            Call::Remove(SEVEN, GROUPS[0], KEYS[1]),
             Call::Undo,
             Call::Redo,
         ] {
@@ -324,8 +351,8 @@ fn any_bytes_are_answered() {
         }
         let _ = output(|out| expand(&file, &noise, &noise, &noise, run, out), 1_000);
         let mut book = Book::new(&noise, random.below(40), random.below(40));
-        let _ = book.set(b"A", b"a", b"x");
-        let _ = book.remove(b"A", b"a");
+        let _ = book.set(SEVEN, b"A", b"a", b"x");
+        let _ = book.remove(SEVEN, b"A", b"a");
         let _ = book.undo();
         let _ = book.redo();
         let _ = (book.file(), book.standing());

@@ -3,7 +3,8 @@
 use crate::common::*;
 use reference::lines::{read_line, Line};
 use reference::{
-    check, choose, complete, expand, lookup, redo, remove, runs, set, undo, Book, Refusal, State,
+    check, choose, complete, expand, lookup, redo, remove, runs, set, undo, Book, RecordKind,
+    Refusal, State,
 };
 
 const DE: &[u8] = b"Desktop Entry";
@@ -55,9 +56,9 @@ fn r1_5_value_after_all_spaces() {
     let file = with_header(b"Name=   \n");
     assert_eq!(lookup(&file, DE, b"Name"), Ok((24, 24)));
     let mut s = state(&file, 100, 100);
-    assert_eq!(set(&mut s, DE, b"Name", b"X"), Ok(()));
+    assert_eq!(set(&mut s, SEVEN, DE, b"Name", b"X"), Ok(()));
     assert_eq!(file_of(&s), with_header(b"Name=   X\n"));
-    assert_eq!(s.journal[..19], journal_record(24, b"", b"X"));
+    assert_eq!(s.journal[..21], journal_record(SEVEN, 24, b"", b"X"));
     assert_eq!(check(&with_header(b"A=\tb\n")), bad_line(2, 2));
     assert_eq!(check(&with_header(b"A\t=b\n")), bad_line(2, 1));
 }
@@ -100,8 +101,14 @@ fn r1_8_form_of_arguments() {
     for key in wrong_keys {
         assert_eq!(lookup(T, DE, key), refused(7, 0));
         assert_eq!(choose(T, DE, key, b""), refused(7, 0));
-        assert_eq!(set(&mut state(T, 100, 100), DE, key, b""), refused(7, 0));
-        assert_eq!(remove(&mut state(T, 100, 100), DE, key), refused(7, 0));
+        assert_eq!(
+            set(&mut state(T, 100, 100), SEVEN, DE, key, b""),
+            refused(7, 0)
+        );
+        assert_eq!(
+            remove(&mut state(T, 100, 100), SEVEN, DE, key),
+            refused(7, 0)
+        );
     }
     assert_eq!(choose(T, DE, b"Name[fr]", b""), refused(7, 0));
     let wrong_locales: [&[u8]; 8] = [
@@ -143,7 +150,7 @@ fn r1_9_complete() {
 #[test]
 fn r1_10_length_not_buffer() {
     let mut s = state(T, 100_000, 100);
-    assert_eq!(set(&mut s, DE, b"Name", b"x"), Ok(()));
+    assert_eq!(set(&mut s, SEVEN, DE, b"Name", b"x"), Ok(()));
     let mut s = state(T, 100_000, 100);
     s.file_len = 32_769;
     assert_eq!(undo(&mut s), refused(1, 0));
@@ -306,8 +313,8 @@ fn r3_6_first_space() {
 fn all_four(s: &State) -> [Result<(), Refusal>; 4] {
     let mut copies = [s.clone(), s.clone(), s.clone(), s.clone()];
     let answers = [
-        set(&mut copies[0], DE, b"Name", b"x"),
-        remove(&mut copies[1], DE, b"Exec"),
+        set(&mut copies[0], SEVEN, DE, b"Name", b"x"),
+        remove(&mut copies[1], SEVEN, DE, b"Exec"),
         undo(&mut copies[2]),
         redo(&mut copies[3]),
     ];
@@ -381,47 +388,50 @@ fn r4_3_list_then_locale_then_items() {
 #[test]
 fn r4_4_order_of_a_set() {
     let mut s = state(T, 71, 0);
-    assert_eq!(set(&mut s, b"B", b"A[de]", b""), refused(8, 0));
-    assert_eq!(set(&mut s, b"B", b"A[de]", b"\0"), refused(10, 0));
-    assert_eq!(set(&mut s, b"B", b"A[", b"\0"), refused(7, 0));
-    assert_eq!(set(&mut s, DE, b"A[de]", b""), refused(6, 0));
-    assert_eq!(remove(&mut s, b"B", b"Name"), refused(8, 0));
-    assert_eq!(remove(&mut s, DE, b"Name[de]"), refused(8, 0));
-    assert_eq!(remove(&mut s, DE, b"Name"), refused(17, 0));
-    assert_eq!(remove(&mut s, DE, b"Name[fr]"), refused(13, 0));
+    assert_eq!(set(&mut s, SEVEN, b"B", b"A[de]", b""), refused(8, 0));
+    assert_eq!(set(&mut s, SEVEN, b"B", b"A[de]", b"\0"), refused(10, 0));
+    assert_eq!(set(&mut s, SEVEN, b"B", b"A[", b"\0"), refused(7, 0));
+    assert_eq!(set(&mut s, SEVEN, DE, b"A[de]", b""), refused(6, 0));
+    assert_eq!(remove(&mut s, SEVEN, b"B", b"Name"), refused(8, 0));
+    assert_eq!(remove(&mut s, SEVEN, DE, b"Name[de]"), refused(8, 0));
+    assert_eq!(remove(&mut s, SEVEN, DE, b"Name"), refused(17, 0));
+    assert_eq!(remove(&mut s, SEVEN, DE, b"Name[fr]"), refused(13, 0));
     assert_eq!(s, state(T, 71, 0));
 }
 
 #[test]
 fn r4_5_room() {
     assert_eq!(
-        set(&mut state(T, 71, 28), DE, b"Name", b"Lesen1"),
+        set(&mut state(T, 71, 30), SEVEN, DE, b"Name", b"Lesen1"),
         refused(11, 0)
     );
     assert_eq!(
-        set(&mut state(T, 72, 28), DE, b"Name", b"Lesen1"),
+        set(&mut state(T, 72, 30), SEVEN, DE, b"Name", b"Lesen1"),
         refused(13, 0)
     );
-    assert_eq!(set(&mut state(T, 72, 29), DE, b"Name", b"Lesen1"), Ok(()));
+    assert_eq!(
+        set(&mut state(T, 72, 31), SEVEN, DE, b"Name", b"Lesen1"),
+        Ok(())
+    );
     // 13 asks standing, not used.
-    let mut s = state(T, 80, 30);
-    assert_eq!(set(&mut s, DE, b"Name", b"abcdefg"), Ok(()));
-    assert_eq!(set(&mut s, DE, b"Name", b""), refused(13, 0));
+    let mut s = state(T, 80, 32);
+    assert_eq!(set(&mut s, SEVEN, DE, b"Name", b"abcdefg"), Ok(()));
+    assert_eq!(set(&mut s, SEVEN, DE, b"Name", b""), refused(13, 0));
     assert_eq!(undo(&mut s), Ok(()));
-    assert_eq!(set(&mut s, DE, b"Name", b"1234567"), Ok(()));
+    assert_eq!(set(&mut s, SEVEN, DE, b"Name", b"1234567"), Ok(()));
 }
 
 #[test]
 fn r4_5_journal_bound() {
     let text = vec![b'x'; 30_000];
     let file = with_header(b"A=");
-    for (more, answer) in [(5_482, Ok(())), (5_483, refused(13, 0))] {
+    for (length, answer) in [(5_496, Ok(())), (5_497, refused(13, 0))] {
         let mut s = state(&file, 40_000, 70_000);
-        assert_eq!(set(&mut s, DE, b"A", &text), Ok(()));
-        assert_eq!(s.standing, 30_018);
-        // The second record has 18, the old 30,000 and the new bytes.
-        assert_eq!(set(&mut s, DE, b"A", &text[..more + 18]), answer);
-        assert_eq!(s.standing, if answer.is_ok() { 65_536 } else { 30_018 });
+        assert_eq!(set(&mut s, SEVEN, DE, b"A", &text), Ok(()));
+        assert_eq!(s.standing, 30_020);
+        // The second record has 20, the old 30,000 and the new bytes.
+        assert_eq!(set(&mut s, SEVEN, DE, b"A", &text[..length]), answer);
+        assert_eq!(s.standing, if answer.is_ok() { 65_536 } else { 30_020 });
     }
 }
 
@@ -459,28 +469,28 @@ fn r4_7_order_in_expansion() {
 #[test]
 fn r5_1_bytes_past_used_keep_their_content() {
     let mut s = state(T, 200, 100);
-    assert_eq!(set(&mut s, DE, b"Name", b"a longer name"), Ok(()));
+    assert_eq!(set(&mut s, SEVEN, DE, b"Name", b"a longer name"), Ok(()));
     let before = s.journal.clone();
     assert_eq!(undo(&mut s), Ok(()));
     assert_eq!(s.journal, before);
-    assert_eq!((s.used, s.standing), (36, 0));
-    assert_eq!(set(&mut s, DE, b"Name", b"x"), Ok(()));
-    assert_eq!((s.used, s.standing), (24, 24));
-    assert_eq!(s.journal[..24], journal_record(38, b"Lesen", b"x"));
-    assert_eq!(s.journal[24..], before[24..]);
+    assert_eq!((s.used, s.standing), (38, 0));
+    assert_eq!(set(&mut s, SEVEN, DE, b"Name", b"x"), Ok(()));
+    assert_eq!((s.used, s.standing), (26, 26));
+    assert_eq!(s.journal[..26], journal_record(SEVEN, 38, b"Lesen", b"x"));
+    assert_eq!(s.journal[26..], before[26..]);
     assert_eq!(redo(&mut s), refused(12, 0));
 }
 
 #[test]
 fn r5_3_zeros_after_a_file_that_shrinks() {
     let mut s = state(T, 90, 100);
-    assert_eq!(set(&mut s, DE, b"Name", b""), Ok(()));
+    assert_eq!(set(&mut s, SEVEN, DE, b"Name", b""), Ok(()));
     assert_eq!(s.file_len, 66);
     assert_eq!(s.file[66..71], [0; 5]);
     assert_eq!(s.file[71..], [0xAA; 19]);
     assert_eq!(undo(&mut s), Ok(()));
     assert_eq!(s.file, state(T, 90, 0).file);
-    assert_eq!(set(&mut s, DE, b"Name", b"Lesen123"), Ok(()));
+    assert_eq!(set(&mut s, SEVEN, DE, b"Name", b"Lesen123"), Ok(()));
     assert_eq!(s.file[74..], [0xAA; 16]);
     assert_eq!(undo(&mut s), Ok(()));
     assert_eq!(s.file[71..74], [0; 3]);
@@ -496,35 +506,37 @@ fn after(file: &[u8], call: impl Fn(&mut State) -> Result<(), Refusal>) -> (Vec<
 
 #[test]
 fn r5_4_old_and_new_bytes() {
-    let (file, record) = after(T, |s| set(s, DE, b"Name", b"Lesen"));
+    let (file, record) = after(T, |s| set(s, SEVEN, DE, b"Name", b"Lesen"));
     assert_eq!(file, T);
-    assert_eq!(record, journal_record(38, b"Lesen", b"Lesen"));
+    assert_eq!(record, journal_record(SEVEN, 38, b"Lesen", b"Lesen"));
     let without_lf = with_header(b"A=1\nB=2");
-    let (file, record) = after(&without_lf, |s| remove(s, DE, b"B"));
+    let (file, record) = after(&without_lf, |s| remove(s, SEVEN, DE, b"B"));
     assert_eq!(file, with_header(b"A=1"));
-    assert_eq!(record, journal_record(19, b"\nB=2", b""));
-    let (file, record) = after(&without_lf, |s| remove(s, DE, b"A"));
+    assert_eq!(record, journal_record(SEVEN, 19, b"\nB=2", b""));
+    let (file, record) = after(&without_lf, |s| remove(s, SEVEN, DE, b"A"));
     assert_eq!(file, with_header(b"B=2"));
-    assert_eq!(record, journal_record(16, b"A=1\n", b""));
-    let (file, record) = after(&without_lf, |s| set(s, DE, b"C", b" 3"));
+    assert_eq!(record, journal_record(SEVEN, 16, b"A=1\n", b""));
+    let (file, record) = after(&without_lf, |s| set(s, SEVEN, DE, b"C", b" 3"));
     assert_eq!(file, with_header(b"A=1\nB=2\nC=\\s3"));
-    assert_eq!(record, journal_record(23, b"", b"\nC=\\s3"));
-    let (file, record) = after(b"[Desktop Entry]", |s| set(s, DE, b"C", b""));
+    assert_eq!(record, journal_record(SEVEN, 23, b"", b"\nC=\\s3"));
+    let (file, record) = after(b"[Desktop Entry]", |s| set(s, SEVEN, DE, b"C", b""));
     assert_eq!(file, b"[Desktop Entry]\nC=");
-    assert_eq!(record, journal_record(15, b"", b"\nC="));
-    let (file, _) = after(&with_header(b"A=1\n[B]\nA=2\n"), |s| remove(s, b"B", b"A"));
+    assert_eq!(record, journal_record(SEVEN, 15, b"", b"\nC="));
+    let (file, _) = after(&with_header(b"A=1\n[B]\nA=2\n"), |s| {
+        remove(s, SEVEN, b"B", b"A")
+    });
     assert_eq!(file, with_header(b"A=1\n[B]\n"));
 }
 
 #[test]
 fn r5_5_where_a_line_goes_in() {
     let file = with_header(b"# c\nA=1\n\n# d\n[B]\n# e");
-    let (edited, record) = after(&file, |s| set(s, DE, b"C", b"2"));
+    let (edited, record) = after(&file, |s| set(s, SEVEN, DE, b"C", b"2"));
     assert_eq!(edited, with_header(b"# c\nA=1\nC=2\n\n# d\n[B]\n# e"));
-    assert_eq!(record, journal_record(24, b"", b"C=2\n"));
-    let (edited, _) = after(&file, |s| set(s, b"B", b"C", b"2"));
+    assert_eq!(record, journal_record(SEVEN, 24, b"", b"C=2\n"));
+    let (edited, _) = after(&file, |s| set(s, SEVEN, b"B", b"C", b"2"));
     assert_eq!(edited, with_header(b"# c\nA=1\n\n# d\n[B]\nC=2\n# e"));
-    let (edited, _) = after(&file, |s| set(s, DE, b"A[de]", b"2"));
+    let (edited, _) = after(&file, |s| set(s, SEVEN, DE, b"A[de]", b"2"));
     assert_eq!(edited, with_header(b"# c\nA=1\nA[de]=2\n\n# d\n[B]\n# e"));
 }
 
@@ -539,27 +551,36 @@ fn foreign(journal: &[u8], standing: u64) -> State {
 
 #[test]
 fn r5_6_damaged_journal() {
-    let empty = journal_record(0, b"", b"");
-    assert_eq!(undo(&mut foreign(&empty, 18)), Ok(()));
-    assert_eq!(redo(&mut foreign(&empty, 0)), Ok(()));
-    assert_eq!(all_four(&foreign(&empty, 17)), [refused(14, 0); 4]);
-    assert_eq!(all_four(&foreign(&empty[..17], 0)), [refused(14, 0); 4]);
-    let two = [empty.clone(), vec![0; 17]].concat();
-    assert_eq!(all_four(&foreign(&two, 18)), [refused(14, 0); 4]);
-    let mut other_kind = empty.clone();
-    other_kind[4] = 4;
-    assert_eq!(all_four(&foreign(&other_kind, 18)), [refused(14, 0); 4]);
-    // 18 + 0xFFFFFFFF + 1 is 18 only if it wraps.
-    let mut wrapped = empty.clone();
-    wrapped[10..14].copy_from_slice(&[0xFF; 4]);
-    wrapped[14] = 1;
-    assert_eq!(all_four(&foreign(&wrapped, 18)), [refused(14, 0); 4]);
-    let long = journal_record(0, b"", b"abc");
-    assert_eq!(all_four(&foreign(&long[..20], 20)), [refused(14, 0); 4]);
-    // Bytes past used are not looked at.
-    let mut past = foreign(&[empty, vec![0xFF; 50]].concat(), 18);
-    past.used = 18;
-    assert_eq!(undo(&mut past), Ok(()));
+    for kind in [RecordKind::One, SEVEN] {
+        let empty = journal_record(kind, 0, b"", b"");
+        let length = empty.len();
+        let whole = length as u64;
+        assert_eq!(undo(&mut foreign(&empty, whole)), Ok(()));
+        assert_eq!(redo(&mut foreign(&empty, 0)), Ok(()));
+        assert_eq!(all_four(&foreign(&empty, whole - 1)), [refused(14, 0); 4]);
+        for cut in 1..length {
+            assert_eq!(all_four(&foreign(&empty[..cut], 0)), [refused(14, 0); 4]);
+        }
+        let two = [empty.clone(), vec![0; length - 1]].concat();
+        assert_eq!(all_four(&foreign(&two, whole)), [refused(14, 0); 4]);
+        for number in [0u16, 2, 3, 5, 0x101, 0x104, 0x400, 0xFFFF] {
+            let mut other_kind = empty.clone();
+            other_kind[4..6].copy_from_slice(&number.to_le_bytes());
+            assert_eq!(all_four(&foreign(&other_kind, whole)), [refused(14, 0); 4]);
+        }
+        // The head and 0xFFFFFFFF + 1 are the head only if that wraps.
+        let mut wrapped = empty.clone();
+        wrapped[length - 8..length - 4].copy_from_slice(&[0xFF; 4]);
+        wrapped[length - 4] = 1;
+        assert_eq!(all_four(&foreign(&wrapped, whole)), [refused(14, 0); 4]);
+        let long = journal_record(kind, 0, b"", b"abc");
+        let cut = &long[..length + 2];
+        assert_eq!(all_four(&foreign(cut, whole + 2)), [refused(14, 0); 4]);
+        // Bytes past used are not looked at.
+        let mut past = foreign(&[empty, vec![0xFF; 50]].concat(), whole);
+        past.used = whole;
+        assert_eq!(undo(&mut past), Ok(()));
+    }
 }
 
 #[test]
@@ -572,13 +593,17 @@ fn r5_7_order_of_undo_and_redo() {
     assert_eq!(redo(&mut damaged), refused(14, 0));
 
     let both = |place: u32, from: &[u8], to: &[u8]| {
-        let undone = journal_record(place, to, from);
-        let redone = journal_record(place, from, to);
-        let mut undo_state = foreign(&undone, undone.len() as u64);
-        let mut redo_state = foreign(&redone, 0);
-        let answer = undo(&mut undo_state);
-        assert_eq!(answer, redo(&mut redo_state));
-        assert_eq!(undo_state.file, redo_state.file);
+        let [answer, answer_of_four] = [RecordKind::One, SEVEN].map(|kind| {
+            let undone = journal_record(kind, place, to, from);
+            let redone = journal_record(kind, place, from, to);
+            let mut undo_state = foreign(&undone, undone.len() as u64);
+            let mut redo_state = foreign(&redone, 0);
+            let answer = undo(&mut undo_state);
+            assert_eq!(answer, redo(&mut redo_state));
+            assert_eq!(undo_state.file, redo_state.file);
+            answer
+        });
+        assert_eq!(answer, answer_of_four);
         answer
     };
     assert_eq!(both(38, b"Lesen", b"Lesen"), Ok(()));
@@ -596,16 +621,16 @@ fn r5_7_order_of_undo_and_redo() {
 
 #[test]
 fn r5_7_bytes_past_the_length_do_not_count() {
-    let record = journal_record(71, b"", b"A=1\n");
-    let mut s = state(&[T, b"A=1\n"].concat(), 75, 22);
+    let record = journal_record(SEVEN, 71, b"", b"A=1\n");
+    let mut s = state(&[T, b"A=1\n"].concat(), 75, 24);
     s.file_len = 71;
     s.journal.copy_from_slice(&record);
-    s.used = 22;
-    s.standing = 22;
+    s.used = 24;
+    s.standing = 24;
     assert_eq!(undo(&mut s), refused(14, 0));
     s.file_len = 75;
     assert_eq!(undo(&mut s), Ok(()));
-    assert_eq!((s.file_len, s.standing, s.used), (71, 0, 22));
+    assert_eq!((s.file_len, s.standing, s.used), (71, 0, 24));
     assert_eq!(s.file[71..], [0; 4]);
     assert_eq!(redo(&mut s), Ok(()));
     assert_eq!(file_of(&s), [T, b"A=1\n"].concat());
@@ -613,27 +638,27 @@ fn r5_7_bytes_past_the_length_do_not_count() {
 
 #[test]
 fn r5_10_book() {
-    let mut book = Book::new(T, 72, 60);
+    let mut book = Book::new(T, 72, 64);
     assert_eq!(book.undo(), refused(12, 0));
-    assert_eq!(book.set(b"[", b"", b"\0"), refused(7, 0));
-    assert_eq!(book.set(b"B", b"A[de]", b"\0"), refused(10, 0));
-    assert_eq!(book.set(b"B", b"A[de]", b""), refused(8, 0));
-    assert_eq!(book.set(DE, b"A[de]", b""), refused(6, 0));
-    assert_eq!(book.remove(DE, b"Name"), refused(17, 0));
-    assert_eq!(book.set(DE, b"Name", b"1234567"), refused(11, 0));
-    assert_eq!(book.set(DE, b"Name", b"Les"), Ok(()));
-    assert_eq!(book.standing(), 26);
-    assert_eq!(book.set(DE, b"Name", b"Lesezimm"), refused(11, 0));
-    assert_eq!(book.remove(DE, b"Name[fr]"), Ok(()));
-    assert_eq!(book.standing(), 58);
-    assert_eq!(book.set(DE, b"Name", b""), refused(13, 0));
+    assert_eq!(book.set(SEVEN, b"[", b"", b"\0"), refused(7, 0));
+    assert_eq!(book.set(SEVEN, b"B", b"A[de]", b"\0"), refused(10, 0));
+    assert_eq!(book.set(SEVEN, b"B", b"A[de]", b""), refused(8, 0));
+    assert_eq!(book.set(SEVEN, DE, b"A[de]", b""), refused(6, 0));
+    assert_eq!(book.remove(SEVEN, DE, b"Name"), refused(17, 0));
+    assert_eq!(book.set(SEVEN, DE, b"Name", b"1234567"), refused(11, 0));
+    assert_eq!(book.set(SEVEN, DE, b"Name", b"Les"), Ok(()));
+    assert_eq!(book.standing(), 28);
+    assert_eq!(book.set(SEVEN, DE, b"Name", b"Lesezimm"), refused(11, 0));
+    assert_eq!(book.remove(SEVEN, DE, b"Name[fr]"), Ok(()));
+    assert_eq!(book.standing(), 62);
+    assert_eq!(book.set(SEVEN, DE, b"Name", b""), refused(13, 0));
     assert_eq!(book.redo(), refused(12, 0));
     assert_eq!(book.undo(), Ok(()));
     assert_eq!(book.undo(), Ok(()));
     assert_eq!((book.file(), book.standing()), (T.to_vec(), 0));
     assert_eq!(book.redo(), Ok(()));
-    assert_eq!(book.standing(), 26);
-    assert_eq!(book.set(DE, b"Name", b"L"), Ok(()));
+    assert_eq!(book.standing(), 28);
+    assert_eq!(book.set(SEVEN, DE, b"Name", b"L"), Ok(()));
     assert_eq!(book.redo(), refused(12, 0));
 }
 
@@ -641,10 +666,10 @@ fn r5_10_book() {
 fn r5_11_postfixed_keys_that_remain() {
     let file = with_header(b"A=1\nAB=2\nAB[de]=3\n[B]\nA=\nA[de]=\n");
     let mut s = state(&file, 100, 100);
-    assert_eq!(remove(&mut s, DE, b"AB"), refused(17, 0));
-    assert_eq!(remove(&mut s, DE, b"A"), Ok(()));
-    assert_eq!(remove(&mut s, DE, b"AB[de]"), Ok(()));
-    assert_eq!(remove(&mut s, DE, b"AB"), Ok(()));
+    assert_eq!(remove(&mut s, SEVEN, DE, b"AB"), refused(17, 0));
+    assert_eq!(remove(&mut s, SEVEN, DE, b"A"), Ok(()));
+    assert_eq!(remove(&mut s, SEVEN, DE, b"AB[de]"), Ok(()));
+    assert_eq!(remove(&mut s, SEVEN, DE, b"AB"), Ok(()));
     assert_eq!(file_of(&s), with_header(b"[B]\nA=\nA[de]=\n"));
 }
 
@@ -1000,5 +1025,8 @@ fn r9_3_long_arguments_are_answered() {
     let long = vec![b'a'; 200_000];
     assert_eq!(lookup(T, &long, &long), refused(8, 0));
     assert_eq!(choose(T, DE, b"Name", &long), Ok((38, 43)));
-    assert_eq!(set(&mut state(T, 71, 0), DE, &long, &long), refused(11, 0));
+    assert_eq!(
+        set(&mut state(T, 71, 0), SEVEN, DE, &long, &long),
+        refused(11, 0)
+    );
 }

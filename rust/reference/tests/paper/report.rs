@@ -2,7 +2,8 @@
 
 use crate::common::{records, with_header, T};
 use reference::{
-    check, choose, complete, expand, lookup, read_list, read_text, set, write_text, Refusal, State,
+    check, choose, complete, expand, lookup, person, read_list, read_text, set, write_text,
+    RecordKind, Refusal, State,
 };
 
 /// A call with an output.
@@ -106,26 +107,8 @@ fn reads_list(raw: &[u8], room: usize) -> String {
     writes("read_list", read_list, digits, raw, room)
 }
 
-/// Entries of T set in turn, up to the first refusal, with a file's and a journal's buffer of so many bytes; both hold dots first.
-fn sets(entries: &[(&str, &str)], file_room: usize, journal_room: usize) -> String {
-    let mut file = T.to_vec();
-    file.resize(file_room, b'.');
-    let mut state = State {
-        file,
-        file_len: T.len() as u64,
-        journal: vec![b'.'; journal_room],
-        used: 0,
-        standing: 0,
-    };
-    let mut set_one = |(key, text): &(&str, &str)| {
-        set(
-            &mut state,
-            b"Desktop Entry",
-            key.as_bytes(),
-            text.as_bytes(),
-        )
-    };
-    let answer = entries.iter().try_for_each(&mut set_one);
+/// The words of an edit's answer, with both buffers.
+fn edited(state: &State, answer: Result<(), Refusal>) -> String {
     let numbers = format!(
         "{} bytes, used {}, standing {}",
         state.file_len, state.used, state.standing
@@ -135,15 +118,69 @@ fn sets(entries: &[(&str, &str)], file_room: usize, journal_room: usize) -> Stri
     format!("{answer}, {file}, {journal}")
 }
 
+/// A file and a journal, all of which stands, in buffers of so many bytes, which hold dots first.
+fn lent(file: &[u8], file_room: usize, journal: &[u8], journal_room: usize) -> State {
+    let dotted = |bytes: &[u8], room| {
+        let mut buffer = bytes.to_vec();
+        buffer.resize(room, b'.');
+        buffer
+    };
+    State {
+        file: dotted(file, file_room),
+        file_len: file.len() as u64,
+        journal: dotted(journal, journal_room),
+        used: journal.len() as u64,
+        standing: journal.len() as u64,
+    }
+}
+
+fn set_by(state: &mut State, person: u16, (key, text): (&str, &str)) -> Result<(), Refusal> {
+    let kind = RecordKind::Four(person);
+    let (key, text) = (key.as_bytes(), text.as_bytes());
+    set(state, kind, b"Desktop Entry", key, text)
+}
+
 fn sets_name(room: usize) -> String {
-    let told = sets(&[("Name", "Les")], 72, room);
-    format!(r#"set "Name" of T to "Les" with a journal of {room} bytes: {told}"#)
+    let mut state = lent(T, 72, b"", room);
+    let answer = set_by(&mut state, 258, ("Name", "Les"));
+    let told = edited(&state, answer);
+    format!(r#"set "Name" of T to "Les" by 258 with a journal of {room} bytes: {told}"#)
 }
 
 fn sets_both(first: (&str, &str), next: (&str, &str)) -> String {
-    let told = sets(&[first, next], 84, 52);
+    let mut state = lent(T, 84, b"", 56);
+    let answer = set_by(&mut state, 1, first).and_then(|()| set_by(&mut state, 2, next));
+    let told = edited(&state, answer);
     let ((key, text), (next, next_text)) = (first, next);
-    format!(r#"set "{key}" of T to "{text}", then "{next}" to "{next_text}": {told}"#)
+    format!(r#"set "{key}" of T to "{text}" by 1, then "{next}" to "{next_text}" by 2: {told}"#)
+}
+
+fn asks_person(journal: &[u8], used: u64, standing: u64, n: u64) -> String {
+    let answer = person(journal, used, standing, n);
+    let told = told(answer, |number| number.to_string());
+    format!("person of record {n} in {used} bytes, of which stand {standing}: {told}")
+}
+
+/// A journal of 01's set of Name in T, and an edit by a person behind it.
+fn persons() -> Vec<String> {
+    let mut old = lent(T, 71, b"", 26);
+    let name = set(&mut old, RecordKind::One, b"Desktop Entry", b"Name", b"Les");
+    assert_eq!(name, Ok(()));
+    let mut state = lent(&old.file[..69], 72, &old.journal, 55);
+    let answer = set_by(&mut state, 7, ("Exec", "v"));
+    let told = edited(&state, answer);
+    let asked = [
+        (54, 54, 0),
+        (54, 54, 1),
+        (54, 26, 1),
+        (54, 54, 2),
+        (54, 27, 2),
+        (53, 26, 0),
+        (56, 54, 0),
+    ];
+    let asked = asked.map(|(used, standing, n)| asks_person(&state.journal, used, standing, n));
+    let set = format!(r#"set "Exec" to "v" by 7 behind a record of kind 1: {told}"#);
+    [&[set][..], &asked].concat()
 }
 
 /// A run of a file's Exec for a locale at a location, with a list of files, into so many bytes.
@@ -174,7 +211,7 @@ fn edits() -> Vec<String> {
         sets_both(icon, url),
         sets_both(url, icon),
     ];
-    [&[27, 26, 25].map(sets_name)[..], &orders].concat()
+    [&[29, 28, 27].map(sets_name)[..], &orders, &persons()].concat()
 }
 
 fn commands() -> Vec<String> {

@@ -1,23 +1,27 @@
--- The calls that read and write text are never refused with 2, so the byte of their refusals is 0. Assumes nothing.
+-- The calls that read and write text, and the one that tells a person, are never refused with 2, so the byte of their refusals is 0.
+-- Assumes nothing.
 use mathlib.Core.Path.{_≡_, refl}
 use Prim.Native.Nat.{ℕ, _+_}
 use Prim.Native.Char.{code}
 use mathlib.Core.Bool.{Bool, true, false}
 use mathlib.Core.Option.{Option, none, some}
 use mathlib.Core.List.{List, [], _∷_}
-use lib.ListN.{length}
+use lib.ListN.{length, take, getElem?}
 use lib.Dec.{eqb, leb}
 use Rattle.base.specs.Choice.{pick, maybe}
 use Rattle.base.specs.Lists.{all}
-use Rattle.fault.specs.declared.Fault.the-variants.{BadEscape, UnfitText, NoRoom}
-use Rattle.fault.specs.Answer.{Answer, given, refused, then}
-use Rattle.fault.proofs.Refusals.{IfRefused, if-then, if-bind, if-need, Not2, byte-zero}
+use Rattle.fault.specs.declared.Fault.the-variants.{BadEscape, UnfitText, NoRoom, NothingLeft, Damaged}
+use Rattle.fault.specs.Answer.{Answer, given, refused, some-or, then}
+use Rattle.fault.proofs.Refusals.{IfRefused, if-then, if-bind, if-need, if-or, Not2, byte-zero}
 use Rattle.record.specs.Record.{listOf}
 use Rattle.text.specs.Escape.{escape, textFrom, readText, rawText, fitText, writeText}
 use Rattle.text.specs.Element.{rawElements, eachRead, elementsOf, fitsRecord, readElements}
 use Rattle.text.specs.Output.{told}
 use Rattle.text.specs.declared.Escapes.{Escapes}
 use Rattle.text.specs.declared.Escapes.the-variants as escapes
+use Rattle.journal.specs.Journal.{Authored, personOf, inOrder, readJournal}
+use Rattle.journal.specs.Lent.{Lent, numbersFit, journalIn, opened, personIn, person}
+use Rattle.splice.specs.Edit.{Edit}
 use Rattle.kveldrim.specs.Abi.{byteIn}
 
 -- ---- their refusals
@@ -57,6 +61,13 @@ list-not2 : (raw : List ℕ) → IfRefused Not2 (readElements raw)
 unfolding readElements elementsOf
 list-not2 raw = if-bind Not2 (elementsOf raw) _ (each-not2 (rawElements raw false) 0) (λ es. if-need Not2 (all fitsRecord es) NoRoom (λ _. given (listOf 2 es)) refl (λ _. tt))
 
+person-not2 : (s : Lent) (n : ℕ) → IfRefused Not2 (person s n)
+unfolding person opened
+person-not2 s n =
+    if-bind Not2 (opened s) (λ j. personIn (inOrder j) n)
+    (if-need Not2 (numbersFit s) Damaged (λ _. journalIn s) refl (λ _. if-or Not2 (readJournal (take (s .used) (s .journal)) (s .standing)) Damaged refl))
+    (λ j. if-then Not2 (λ (e : Authored Edit). personOf (e .author)) (some-or (getElem? (inOrder j) n) NothingLeft) (if-or Not2 (getElem? (inOrder j) n) NothingLeft refl))
+
 -- ---- their bytes
 
 told-zero : (a : Answer (List ℕ)) (out : List ℕ) → IfRefused Not2 a → byteIn (told a out) ≡ 0
@@ -75,3 +86,10 @@ write-zero text out = told-zero (writeText text) out (write-not2 text)
 
 pub list-zero : (raw out : List ℕ) → byteIn (told (readElements raw) out) ≡ 0
 list-zero raw out = told-zero (readElements raw) out (list-not2 raw)
+
+pub person-zero : (s : Lent) (n : ℕ) → byteIn (person s n) ≡ 0
+person-zero s n = go (person s n) (person-not2 s n)
+  where
+    go : (a : Answer ℕ) → IfRefused Not2 a → byteIn a ≡ 0
+    go (given m) h = refl
+    go (refused f) h = byte-zero f h
