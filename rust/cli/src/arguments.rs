@@ -3,7 +3,7 @@
 use std::ffi::OsString;
 use std::time::Duration;
 
-use clap::{Args, Parser, Subcommand};
+use clap::{Args, Parser, Subcommand, ValueHint};
 use clap_complete::Shell;
 
 /// Checks .desktop files, reads, edits and merges them, and expands their commands
@@ -14,10 +14,17 @@ pub struct Line {
     pub command: Command,
 }
 
+/// The variables for --person and --persons.
+pub const PERSON: &str = "KVELDRIM_PERSON";
+pub const PERSONS: &str = "KVELDRIM_PERSONS";
+
 const AFTER_HELP: &str = "\
 `kveldrim COMMAND --help` tells more of each. A word -- ends the options; - as FILE is standard input, for commands that \
 only read. Faults are told as FILE:LINE:BYTE: what is wrong, as far as line and byte are known; both count from 1. On a \
 terminal the line follows, with a caret under the byte.
+
+Variables: KVELDRIM_PERSON is who edits, where there is no --person; KVELDRIM_PERSONS is the file of persons, where there is \
+no --persons.
 
 Exit status: 0 all is well; 1 a file, a question or an edit was refused; 2 bad usage, or a file that cannot be read or \
 written; 75 another kveldrim edits the file just now, so try again. Of merge 1 means conflicts, and a file that is refused is 2.";
@@ -40,7 +47,7 @@ pub enum Command {
     Undo(Step),
     /// Makes the edits once more that were taken back last
     Redo(Step),
-    /// Tells the edits that stand, and those that wait for redo
+    /// Tells the edits that stand, those that wait for redo, and who made them
     Log(Log),
     /// Makes one file of two changed copies of it
     Merge(Merge),
@@ -145,11 +152,43 @@ pub struct Change {
     #[arg(long)]
     pub discard_journal: bool,
     /// Warns of nothing: neither of a file that is no longer complete, nor of an Exec that can no longer be expanded, nor of a
-    /// locale that is never read
+    /// locale that is never read, nor of a person without a name
     #[arg(long)]
     pub no_warn: bool,
     #[command(flatten)]
+    pub who: Who,
+    #[command(flatten)]
     pub manner: Manner,
+}
+
+/// Who edits.
+#[derive(Args)]
+pub struct Who {
+    /// Who edits: a number from 0 to 65535, or a name in the file of persons; without it nobody is named, which is number 0
+    #[arg(
+        long,
+        value_name = "WHO",
+        env = PERSON,
+        hide_env_values = true
+    )]
+    pub person: Option<OsString>,
+    #[command(flatten)]
+    pub persons: PersonsFile,
+}
+
+/// The names of those who edit.
+#[derive(Args)]
+pub struct PersonsFile {
+    /// The file of persons, on each line a number, a space and a name; without it kveldrim-persons.txt beside the edited file, if
+    /// that is there
+    #[arg(
+        long,
+        value_name = "FILE",
+        value_hint = ValueHint::FilePath,
+        env = PERSONS,
+        hide_env_values = true
+    )]
+    pub persons: Option<OsString>,
 }
 
 /// How an edit is made.
@@ -193,13 +232,20 @@ pub struct Remove {
     pub change: Change,
 }
 
+/// What --person is to undo and redo, which record nobody.
+const WHO_STEPS: &str = "Who you are: a number from 0 to 65535, or a name in the file of persons; each edit of another person is \
+then told on standard error";
+
 #[derive(Args)]
+#[command(mut_arg("person", |person| person.help(WHO_STEPS)))]
 pub struct Step {
     /// The file
     pub file: OsString,
     /// How many edits
     #[arg(value_name = "N", default_value = "1", value_parser = clap::value_parser!(u32).range(1..))]
     pub steps: u32,
+    #[command(flatten)]
+    pub who: Who,
     #[command(flatten)]
     pub manner: Manner,
 }
@@ -208,6 +254,8 @@ pub struct Step {
 pub struct Log {
     /// The file
     pub file: OsString,
+    #[command(flatten)]
+    pub persons: PersonsFile,
     #[command(flatten)]
     pub json: Json,
 }

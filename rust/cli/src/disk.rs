@@ -101,6 +101,16 @@ pub fn open(file: &Path) -> io::Result<(File, Metadata)> {
     Ok((open, seen))
 }
 
+/// A plain file that is open for reading; a link is followed, and nothing is waited for.
+pub fn open_followed(file: &Path) -> io::Result<File> {
+    let mut options = OpenOptions::new();
+    options.custom_flags(OFlags::NONBLOCK.bits() as i32);
+    match fs::metadata(file)?.is_file() {
+        true => options.read(true).open(file),
+        false => Err(not_plain("it")),
+    }
+}
+
 /// Whether the path names still the file that was like this, and nothing was written to it.
 pub fn stands_still(file: &Path, seen: &Metadata) -> bool {
     let state = |of: &Metadata| {
@@ -145,6 +155,13 @@ pub fn may_replace(uid: u32, file: &Metadata, folder: &Path) -> io::Result<bool>
     let folder = fs::metadata(folder)?;
     let is_sticky = folder.mode() & STICKY != 0;
     Ok(!is_sticky || [0, file.uid(), folder.uid()].contains(&uid))
+}
+
+/// Whether a file that lies beside an edited one is believed: it belongs to who runs the command, or to somebody who may replace
+/// the edited one.
+pub fn is_believed(beside: &Metadata, file: &Metadata, folder: &Path) -> io::Result<bool> {
+    let owner = beside.uid();
+    Ok(owner == geteuid().as_raw() || may_replace(owner, file, folder)?)
 }
 
 /// What is to be put on disk.

@@ -8,120 +8,168 @@ use std::process::ExitCode;
 use kveldrim::{Document, Edit, Edits, Kind, Person, Refusal};
 
 use crate::arguments::{Change, Key, Log, Manner, Remove, Set, Step};
-use crate::log::{edits, Tense, Told};
+use crate::log::{edits, Done, Recorded, Tense, Told};
+use crate::persons::{given_person, Persons};
 use crate::report::Trouble;
 use crate::store::Store;
 use crate::{expand, json, locale, streams};
 
 pub fn set(set: &Set) -> ExitCode {
     let text = set.text.as_bytes();
-    change(&set.key, &set.change, |document, group, key| {
-        document.set(Person::NOBODY, group, key, text)
-    })
+    let call = |document: &mut Document, person, group: &[u8], key: &[u8]| {
+        document.set(person, group, key, text)
+    };
+    status(change("set", &set.key, &set.change, call))
 }
 
 pub fn remove(remove: &Remove) -> ExitCode {
-    change(&remove.key, &remove.change, |document, group, key| {
-        document.remove(Person::NOBODY, group, key)
-    })
+    let call = Document::remove;
+    status(change("remove", &remove.key, &remove.change, call))
+}
+
+pub fn undo(step: &Step) -> ExitCode {
+    let call = |document: &mut Document| {
+        let standing = document.journal()[..document.standing() as usize].to_vec();
+        let before = document.file().to_vec();
+        document.undo()?;
+        let (number, edit) = last(&standing);
+        let turned = Edit {
+            old: edit.new,
+            new: edit.old,
+            ..edit
+        };
+        Ok(Done {
+            told: Told::of(&before, &turned),
+            act: "taking back an edit by",
+            person: document.person(number)?,
+        })
+    };
+    status(steps(step, "undo", call))
+}
+
+pub fn redo(step: &Step) -> ExitCode {
+    let call = |document: &mut Document| {
+        let act = "making once more an edit by";
+        made(document, act, Document::redo)
+    };
+    status(steps(step, "redo", call))
+}
+
+/// Tells what went wrong, if something did.
+fn status(done: Result<(), Trouble>) -> ExitCode {
+    match done {
+        Ok(()) => ExitCode::SUCCESS,
+        Err(trouble) => trouble.tell(),
+    }
 }
 
 /// A set or a remove of a key, with its locale.
 fn change(
+    name: &str,
     Key { file, key }: &Key,
     change: &Change,
-    call: impl Fn(&mut Document, &[u8], &[u8]) -> Result<(), Refusal>,
-) -> ExitCode {
+    call: impl Fn(&mut Document, Person, &[u8], &[u8]) -> Result<(), Refusal>,
+) -> Result<(), Trouble> {
     let group = change.group.group.as_bytes();
     let mut key = key.as_bytes().to_vec();
     if let Some(locale) = &change.locale {
         if locale::is_auto(locale) {
-            return Trouble::usage("an edit needs a locale by its name, not auto").tell();
+            let words = "an edit needs a locale by its name, not auto";
+            return Err(Trouble::usage(words));
         }
         key = [&key, &b"["[..], locale.as_bytes(), b"]"].concat();
     }
+    named(file)?;
+    let who = given_person(&change.who.person, name)?;
+    let mut persons = Persons::of(&change.who.persons, file, name)?.without_fault()?;
+    let person = persons.find(who, name)?;
     let made = make(
         file,
         change.discard_journal,
         &change.manner,
+        &persons,
         |document| {
-            Ok(vec![made(document, |document| {
-                call(document, group, &key)
-            })?])
+            let call = |document: &mut Document| call(document, person, group, &key);
+            Ok(vec![made(document, "by", call)?])
         },
         |bytes, refusal| Trouble::of_change(file, group, &key, bytes, refusal),
-    );
-    match made {
-        Ok(made) => {
-            if !change.no_warn {
-                made.warn(file, group, &key);
-            }
-            ExitCode::SUCCESS
-        }
-        Err(trouble) => trouble.tell(),
+    )?;
+    if !change.no_warn {
+        persons.warn(change.manner.dry_run.then_some(person));
+        persons.warn_of_nameless(person, file);
+        made.warn(file, group, &key);
     }
+    Ok(())
 }
 
-pub fn undo(step: &Step) -> ExitCode {
-    steps(step, "undo", |document| {
-        let standing = document.journal()[..document.standing() as usize].to_vec();
-        let before = document.file().to_vec();
-        document.undo()?;
-        let Edit { place, old, new } = last(&standing);
-        let turned = Edit {
-            place,
-            old: new,
-            new: old,
-        };
-        Ok(Told::of(&before, &turned))
-    })
-}
-
-pub fn redo(step: &Step) -> ExitCode {
-    steps(step, "redo", |document| made(document, Document::redo))
-}
-
-/// So many undos or redos, all or none.
+/// So many undos or redos, all or none. Where it is known who edits, it is told which of the edits are another person's; no fault
+/// in that keeps anybody from a step.
 fn steps(
     step: &Step,
     name: &str,
-    call: impl Fn(&mut Document) -> Result<Told, Refusal>,
-) -> ExitCode {
-    let done = Cell::new(0);
+    call: impl Fn(&mut Document) -> Result<Done, Refusal>,
+) -> Result<(), Trouble> {
+    named(&step.file)?;
+    let who = given_person(&step.who.person, name)?;
+    let mut persons = Persons::of(&step.who.persons, &step.file, name)?;
+    let found = persons.find(who, name);
+    let count = Cell::new(0);
     let made = make(
         &step.file,
         false,
         &step.manner,
+        &persons,
         |document| {
             let one = |_| {
-                let told = call(document)?;
-                done.set(done.get() + 1);
-                Ok(told)
+                let done = call(document)?;
+                count.set(count.get() + 1);
+                Ok(done)
             };
             (0..step.steps).map(one).collect()
         },
-        |bytes, refusal| Trouble::of_step(&step.file, bytes, refusal, name, done.get()),
-    );
-    match made {
-        Ok(_) => ExitCode::SUCCESS,
-        Err(trouble) => trouble.tell(),
+        |bytes, refusal| Trouble::of_step(&step.file, bytes, refusal, name, count.get()),
+    )?;
+    let person = found.unwrap_or_else(|trouble| {
+        let about = "edits of others are not told as such";
+        trouble.warning(about).tell();
+        Person::NOBODY
+    });
+    if step.manner.dry_run {
+        // It has told all edits.
+        persons.warn(made.done.iter().map(|done| done.person));
+        return Ok(());
     }
+    let is_another = |other| person != Person::NOBODY && ![Person::NOBODY, person].contains(&other);
+    let others = made.done.iter().filter(|done| is_another(done.person));
+    let others: Vec<&Done> = others.collect();
+    persons.warn(others.iter().map(|done| done.person));
+    for done in others {
+        let words = done.line(Tense::Past, &persons);
+        Trouble::warning_of(&step.file, words).tell();
+    }
+    Ok(())
 }
 
 /// Makes a call that adds an edit or makes it once more, and tells the edit by the file that it found.
 fn made(
     document: &mut Document,
+    act: &'static str,
     call: impl Fn(&mut Document) -> Result<(), Refusal>,
-) -> Result<Told, Refusal> {
+) -> Result<Done, Refusal> {
     let before = document.file().to_vec();
     call(document)?;
     let standing = &document.journal()[..document.standing() as usize];
-    Ok(Told::of(&before, &last(standing)))
+    let (number, edit) = last(standing);
+    Ok(Done {
+        told: Told::of(&before, &edit),
+        act,
+        person: document.person(number)?,
+    })
 }
 
-/// The last edit of records that an accepted call has read or written.
-fn last(records: &[u8]) -> Edit<'_> {
-    let edit = Edits::new(records).last();
+/// The last edit of records that an accepted call has read or written, and its number, from 0.
+fn last(records: &[u8]) -> (u64, Edit<'_>) {
+    let edit = (0..).zip(Edits::new(records)).last();
     edit.expect("the record of an accepted edit")
 }
 
@@ -129,6 +177,7 @@ fn last(records: &[u8]) -> Edit<'_> {
 struct Made {
     before: Vec<u8>,
     after: Vec<u8>,
+    done: Vec<Done>,
 }
 
 /// Makes calls on a file and its journal, and saves both if all are accepted. A dry run writes what would change, and takes
@@ -137,17 +186,17 @@ fn make(
     file: &OsStr,
     discard: bool,
     manner: &Manner,
-    calls: impl FnOnce(&mut Document) -> Result<Vec<Told>, Refusal>,
+    persons: &Persons,
+    calls: impl FnOnce(&mut Document) -> Result<Vec<Done>, Refusal>,
     refused: impl FnOnce(&[u8], Refusal) -> Trouble,
 ) -> Result<Made, Trouble> {
-    named(file)?;
     let store = match manner.dry_run {
         true => Store::look(file, discard)?,
         false => Store::edit(file, discard, manner.wait.wait)?,
     };
     let mut document = store.document();
     let before = document.file().to_vec();
-    let told = calls(&mut document).map_err(|refusal| match refusal.kind {
+    let done = calls(&mut document).map_err(|refusal| match refusal.kind {
         Kind::Damaged => store.damaged(),
         Kind::Nothing => store
             .left_behind()
@@ -156,14 +205,15 @@ fn make(
     })?;
     match manner.dry_run {
         true => {
-            let line = |told: &Told| [&told.line(Tense::Conditional)[..], b"\n"].concat();
-            streams::put(&told.iter().flat_map(line).collect::<Vec<u8>>())?;
+            let line = |done: &Done| [&done.line(Tense::Conditional, persons)[..], b"\n"].concat();
+            streams::put(&done.iter().flat_map(line).collect::<Vec<u8>>())?;
         }
         false => store.save(&document)?,
     }
     Ok(Made {
         before,
         after: document.file().to_vec(),
+        done,
     })
 }
 
@@ -213,30 +263,34 @@ fn is_unread(key: &[u8]) -> bool {
     postfix.is_some_and(locale::is_never_chosen)
 }
 
-/// The edits of a file's journal, a line or an object for each.
 pub fn log(log: &Log) -> ExitCode {
-    let store = named(&log.file).and_then(|()| Store::look(&log.file, false));
-    let told = store.and_then(|store| {
-        if let Some(trouble) = store.left_behind() {
-            trouble.tell();
-        }
-        let document = store.document();
-        let bytes = document.file().to_vec();
-        edits(document).map_err(|refusal| match refusal.kind {
-            Kind::Damaged => store.damaged(),
-            _ => Trouble::of_file(&log.file, &bytes, refusal),
-        })
-    });
-    match told {
-        Ok(edits) if log.json.json => {
-            let lines = edits.iter().flat_map(|edit| json::line(&edit.object()));
-            streams::write(&lines.collect::<Vec<u8>>())
-        }
-        Ok(edits) if edits.is_empty() => streams::write(b"no edit is recorded\n"),
-        Ok(edits) => {
-            let lines = edits.iter().flat_map(|edit| [edit.line(), b"\n".to_vec()]);
-            streams::write(&lines.collect::<Vec<_>>().concat())
-        }
+    match lines(log) {
+        Ok(lines) => streams::write(&lines),
         Err(trouble) => trouble.tell(),
     }
+}
+
+/// The edits of a file's journal, a line or an object for each.
+fn lines(log: &Log) -> Result<Vec<u8>, Trouble> {
+    named(&log.file)?;
+    let mut persons = Persons::of(&log.persons, &log.file, "log")?.without_fault()?;
+    let store = Store::look(&log.file, false)?;
+    if let Some(trouble) = store.left_behind() {
+        trouble.tell();
+    }
+    let document = store.document();
+    let bytes = document.file().to_vec();
+    let edits = edits(document).map_err(|refusal| match refusal.kind {
+        Kind::Damaged => store.damaged(),
+        _ => Trouble::of_file(&log.file, &bytes, refusal),
+    })?;
+    persons.warn(edits.iter().map(|edit| edit.done.person));
+    Ok(match log.json.json {
+        true => {
+            let object = |edit| json::line(&Recorded::object(edit, &persons));
+            edits.iter().flat_map(object).collect()
+        }
+        false if edits.is_empty() => b"no edit is recorded\n".to_vec(),
+        false => edits.iter().flat_map(|edit| edit.line(&persons)).collect(),
+    })
 }

@@ -23,7 +23,8 @@ impl Pair {
 }
 
 const MAGIC: &[u8] = b"kveldrim";
-const VERSION: u32 = 2;
+/// The version that is written. Version 2 has the same layout, with records that name no person.
+const VERSION: u32 = 3;
 /// The version without a digest.
 const FIRST: u32 = 1;
 /// The bytes of a digest, SHA-256.
@@ -47,14 +48,34 @@ pub fn write(pairs: &[&Pair]) -> Vec<u8> {
     bytes
 }
 
-/// The pairs of a journal's file, the newest first; none if the bytes are no such file.
-pub fn read(bytes: &[u8]) -> Option<Vec<Pair>> {
+/// Why there are no pairs in the bytes of a file.
+#[derive(Debug, Clone, Copy, PartialEq, Eq)]
+pub enum Unread {
+    Damaged,
+    /// It is sound, and of a version after this one.
+    Newer,
+}
+
+/// The pairs of a journal's file, the newest first.
+pub fn read(bytes: &[u8]) -> Result<Vec<Pair>, Unread> {
+    match content(bytes) {
+        Some((version, _)) if version > VERSION => Err(Unread::Newer),
+        Some((_, rest)) => read_pairs(rest).ok_or(Unread::Damaged),
+        None => Err(Unread::Damaged),
+    }
+}
+
+/// The version and what follows it, without the digest that every version but the first has at its end.
+fn content(bytes: &[u8]) -> Option<(u32, &[u8])> {
     let mut rest = bytes.strip_prefix(MAGIC)?;
     match number(&mut rest)? {
-        VERSION => rest = before_digest(bytes, rest)?,
-        FIRST => {}
-        _ => return None,
+        0 => None,
+        FIRST => Some((FIRST, rest)),
+        version => Some((version, before_digest(bytes, rest)?)),
     }
+}
+
+fn read_pairs(mut rest: &[u8]) -> Option<Vec<Pair>> {
     let pairs = number(&mut rest)?;
     if !(1..=2).contains(&pairs) {
         return None;
@@ -120,7 +141,7 @@ mod tests {
     }
 
     const NUMBERS: [u8; 20] = [
-        2, 0, 0, 0, 1, 0, 0, 0, 19, 0, 0, 0, 21, 0, 0, 0, 21, 0, 0, 0,
+        3, 0, 0, 0, 1, 0, 0, 0, 19, 0, 0, 0, 21, 0, 0, 0, 21, 0, 0, 0,
     ];
 
     /// The digest is what `sha256sum` tells of the bytes before it.
@@ -134,7 +155,7 @@ mod tests {
         let digest: String = digest.iter().map(|byte| format!("{byte:02x}")).collect();
         assert_eq!(
             digest,
-            "a43b11c1dca6ab6faf22160d294fcdef667a1c702242a70bcb9decb8155e1bdb"
+            "22af885c70ec2500ae5a94f32fe46b03182f345fd4b71867c9b9c8366333acc6"
         );
     }
 
@@ -146,6 +167,14 @@ mod tests {
         bytes
     }
 
+    /// The same pairs in a file that has this version's number, and its digest.
+    fn numbered(version: u32, pairs: &[&Pair]) -> Vec<u8> {
+        let mut bytes = first_version(pairs);
+        bytes[8..12].copy_from_slice(&version.to_le_bytes());
+        bytes.extend(Sha256::digest(&bytes));
+        bytes
+    }
+
     #[test]
     fn version_1_is_read() {
         let [new, _] = pairs();
@@ -153,7 +182,25 @@ mod tests {
             b"kveldrim\x01\0\0\0\x01\0\0\0\x13\0\0\0\x15\0\0\0\x15\0\0\0[Desktop Entry]\nA=\n\
             \x07\x07\x07\x07\x07\x07\x07\x07\x07\x07\x07\x07\x07\x07\x07\x07\x07\x07\x07\x07\x07";
         assert_eq!(first_version(&[&new]), bytes);
-        assert_eq!(read(bytes), Some(vec![new]));
+        assert_eq!(read(bytes), Ok(vec![new]));
+    }
+
+    /// A sound file of a version after this one is told apart from a damaged one.
+    #[test]
+    fn other_versions() {
+        let [new, old] = pairs();
+        let both = [&new, &old];
+        for version in [2, VERSION] {
+            let expected = vec![new.clone(), old.clone()];
+            assert_eq!(read(&numbered(version, &both)), Ok(expected));
+        }
+        for version in [VERSION + 1, u32::MAX] {
+            let mut bytes = numbered(version, &both);
+            assert_eq!(read(&bytes), Err(Unread::Newer));
+            bytes[20] ^= 1;
+            assert_eq!(read(&bytes), Err(Unread::Damaged));
+        }
+        assert_eq!(read(&numbered(0, &both)), Err(Unread::Damaged));
     }
 
     #[test]
@@ -162,10 +209,10 @@ mod tests {
         let mut bytes = write(&[&new, &old]);
         for at in 0..8 * bytes.len() {
             bytes[at / 8] ^= 1 << (at % 8);
-            assert_eq!(read(&bytes), None, "bit {at}");
+            assert_eq!(read(&bytes), Err(Unread::Damaged), "bit {at}");
             bytes[at / 8] ^= 1 << (at % 8);
         }
-        assert!(read(&bytes).is_some());
+        assert!(read(&bytes).is_ok());
     }
 
     #[test]
@@ -173,9 +220,10 @@ mod tests {
         let [new, old] = pairs();
         for bytes in [write(&[&new, &old]), first_version(&[&new, &old])] {
             for length in 0..bytes.len() {
-                assert_eq!(read(&bytes[..length]), None, "{length}");
+                let read = read(&bytes[..length]);
+                assert_eq!(read, Err(Unread::Damaged), "{length}");
             }
-            assert_eq!(read(&[&bytes[..], b"x"].concat()), None);
+            assert_eq!(read(&[&bytes[..], b"x"].concat()), Err(Unread::Damaged));
         }
         // Magic, version, number of pairs, lengths, standing.
         for (at, byte) in [
@@ -189,7 +237,7 @@ mod tests {
         ] {
             let mut wrong = first_version(&[&new, &old]);
             wrong[at] = byte;
-            assert_eq!(read(&wrong), None, "{at}");
+            assert_eq!(read(&wrong), Err(Unread::Damaged), "{at}");
         }
     }
 
@@ -202,6 +250,6 @@ mod tests {
         };
         let bytes = write(&[&pair, &pair]);
         assert_eq!(bytes.len(), MOST);
-        assert!(read(&bytes).is_some());
+        assert!(read(&bytes).is_ok());
     }
 }

@@ -114,6 +114,7 @@ impl Place {
         let mut command = Command::new(env::current_exe().unwrap());
         command
             .args(["--exact", "kills::child", "--ignored", "--nocapture"])
+            .env_clear()
             .env(WORDS, words.join("\n"));
         command
     }
@@ -217,7 +218,9 @@ const THREE_FILES: u32 = 30;
 /// Whether every journal's records of before are somewhere in the folder.
 fn keeps_journal(before: &Folder, now: &Folder) {
     let pairs = |folder: &Folder| -> Vec<Pair> {
-        let journals = folder.values().filter_map(|bytes| journal::read(bytes));
+        let journals = folder
+            .values()
+            .filter_map(|bytes| journal::read(bytes).ok());
         journals.flatten().collect()
     };
     for pair in pairs(before) {

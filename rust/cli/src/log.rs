@@ -1,9 +1,10 @@
 //! What a journal records, in words.
 
-use kveldrim::{Document, Edit, Edits, Refusal};
+use kveldrim::{Document, Edit, Edits, Person, Refusal};
 use serde_json::{json, Value};
 
 use crate::json::text;
+use crate::persons::Persons;
 use crate::report::is_harmful;
 
 /// What an edit does to the entry of a key. Values are raw, as they stand in the file.
@@ -14,10 +15,18 @@ pub struct Told {
     new: Option<Vec<u8>>,
 }
 
-/// An edit of a journal: whether it stands, and what it does.
+/// What a call does or has done, and whose edit that is.
+pub struct Done {
+    pub told: Told,
+    /// What stands between the edit and its person.
+    pub act: &'static str,
+    pub person: Person,
+}
+
+/// An edit of a journal, and whether it stands.
 pub struct Recorded {
     stands: bool,
-    told: Told,
+    pub done: Done,
 }
 
 /// When an edit is made.
@@ -36,38 +45,56 @@ pub fn edits(mut document: Document) -> Result<Vec<Recorded>, Refusal> {
         document.undo()?;
     }
     let mut recorded = Vec::new();
-    for edit in Edits::new(&journal) {
+    for (number, edit) in (0..).zip(Edits::new(&journal)) {
         let stands = document.standing() < standing;
-        let told = Told::of(document.file(), &edit);
+        let done = Done {
+            told: Told::of(document.file(), &edit),
+            act: "by",
+            person: document.person(number)?,
+        };
         document.redo()?;
-        recorded.push(Recorded { stands, told });
+        recorded.push(Recorded { stands, done });
     }
     Ok(recorded)
 }
 
 impl Recorded {
     /// The edit in a line of words.
-    pub fn line(&self) -> Vec<u8> {
+    pub fn line(&self, persons: &Persons) -> Vec<u8> {
         let state: &[u8] = if self.stands { b"stands: " } else { b"waits: " };
-        [state, &self.told.line(Tense::Past)].concat()
+        [state, &self.done.line(Tense::Past, persons), b"\n"].concat()
     }
 
     /// The edit as an object (docs/JSON.md).
-    pub fn object(&self) -> Value {
+    pub fn object(&self, persons: &Persons) -> Value {
+        let Done { told, person, .. } = &self.done;
         let Told {
             group,
             key,
             old,
             new,
-        } = &self.told;
+        } = told;
         let value = |raw: &Option<Vec<u8>>| raw.as_deref().map(text);
         json!({
+            "person": person.0,
+            "name": persons.name(*person),
             "state": if self.stands { "stands" } else { "waits" },
             "group": text(group),
             "key": text(key),
             "old": value(old),
             "new": value(new),
         })
+    }
+}
+
+impl Done {
+    /// The edit and its person, if one is named, in words without a line's end.
+    pub fn line(&self, tense: Tense, persons: &Persons) -> Vec<u8> {
+        let whose = match self.person {
+            Person::NOBODY => String::new(),
+            person => format!(", {} {}", self.act, persons.words(person)),
+        };
+        [self.told.line(tense), whose.into_bytes()].concat()
     }
 }
 

@@ -20,6 +20,7 @@ mod locale;
 mod log;
 mod merge;
 mod names;
+mod persons;
 mod report;
 mod store;
 mod streams;

@@ -10,6 +10,7 @@ use std::process::ExitCode;
 use kveldrim::{Kind, Place, Refusal, DESKTOP_ENTRY};
 use serde_json::{json, Value};
 
+use crate::arguments::PERSONS;
 use crate::excerpt::excerpt;
 use crate::expand::quoted;
 use crate::faults::{self, Fault};
@@ -86,12 +87,21 @@ impl Trouble {
 
     /// The same as a warning, after words that say what it is about.
     pub fn warning(self, about: &str) -> Trouble {
-        let words = [b"warning: ", about.as_bytes(), b": ", &self.words].concat();
+        let words = [about.as_bytes(), b": ", &self.words].concat();
+        Trouble { words, ..self }.warned()
+    }
+
+    fn warned(self) -> Trouble {
         Trouble {
-            words,
+            words: [b"warning: ", &self.words[..]].concat(),
             status: 0,
             ..self
         }
+    }
+
+    /// A warning about a file, or about the command itself.
+    pub fn warning_of(about: &OsStr, words: impl Into<Vec<u8>>) -> Trouble {
+        Trouble::new(about, words, 0).warned()
     }
 
     /// Something that a user should know of a file, which is no fault.
@@ -100,7 +110,16 @@ impl Trouble {
     }
 
     pub fn usage(words: &str) -> Trouble {
-        let words = format!("{words} (kveldrim --help tells more)");
+        Trouble::usage_by("kveldrim", words)
+    }
+
+    /// Bad usage of one of the commands.
+    pub fn usage_of(command: &str, words: &str) -> Trouble {
+        Trouble::usage_by(&format!("kveldrim {command}"), words)
+    }
+
+    fn usage_by(program: &str, words: &str) -> Trouble {
+        let words = format!("{words} ({program} --help tells more)");
         Trouble::new(OsStr::new("kveldrim"), words, UNUSABLE)
     }
 
@@ -172,12 +191,38 @@ impl Trouble {
         of_journal(file, "its journal ", journal, " is damaged")
     }
 
+    /// It is sound, so there is no advice to put it aside.
+    pub fn newer(file: &OsStr, journal: &OsStr) -> Trouble {
+        let words = "was written by a newer kveldrim, so update this one; nothing was changed";
+        Trouble {
+            status: REFUSED,
+            ..Trouble::in_the_way(file, journal, words)
+        }
+    }
+
+    /// A file of persons cannot be read.
+    pub fn unreadable_persons(file: &OsStr, is_asked_for: bool, error: &io::Error) -> Trouble {
+        let by = match is_asked_for {
+            true => format!(" (--persons or {PERSONS})"),
+            false => String::new(),
+        };
+        let words = format!("the file of persons{by} cannot be read: {}", plain(error));
+        Trouble::new(file, words, UNUSABLE)
+    }
+
+    /// A file of persons cannot be used because of one of its lines.
+    pub fn of_persons(file: &OsStr, line: usize, words: &str) -> Trouble {
+        Trouble {
+            line: Some(line),
+            ..Trouble::new(file, words, UNUSABLE)
+        }
+    }
+
     /// A key was set that the choice by a locale never takes.
     pub fn unread(file: &OsStr, key: &[u8]) -> Trouble {
         let words =
             b"`get --locale` will not read this key: its locale has an encoding, or is C or POSIX";
-        let words = [&b"warning: "[..], &escaped(key), b": ", words].concat();
-        Trouble::new(file, words, 0)
+        Trouble::warning_of(file, [&escaped(key), &b": "[..], words].concat())
     }
 
     pub fn refused(file: &OsStr, words: &str) -> Trouble {
@@ -341,7 +386,7 @@ pub fn misused(words: &str) -> ExitCode {
 
 /// Writes a warning that is about no file.
 pub fn warn(words: &[u8]) {
-    Trouble::new(OsStr::new("kveldrim"), [b"warning: ", words].concat(), 0).tell();
+    Trouble::warning_of(OsStr::new("kveldrim"), words).tell();
 }
 
 /// What Form means to somebody at a keyboard: which of the group, the key and the locale is not well written.
@@ -388,8 +433,8 @@ fn of_journal(file: &OsStr, before: &str, journal: &OsStr, after: &str) -> Troub
     Trouble::new(file, words, REFUSED)
 }
 
-/// A name in a message: control characters, ends of lines and marks of direction are escaped. Others stay as they are, and so do
-/// bytes that are not UTF-8.
+/// A name in a message: control characters, ends of lines, marks of direction and spaces without width are escaped. Others stay
+/// as they are, and so do bytes that are not UTF-8.
 pub fn shown(name: &OsStr) -> Vec<u8> {
     match name.is_empty() {
         true => b"''".to_vec(),
@@ -421,7 +466,9 @@ pub fn is_harmful(character: char) -> bool {
         character,
         '\u{61C}' | '\u{200E}' | '\u{200F}' | '\u{202A}'..='\u{202E}' | '\u{2066}'..='\u{2069}'
     );
-    is_mark || character.is_control() || matches!(character, '\u{2028}' | '\u{2029}')
+    let is_unseen = matches!(character, '\u{200B}' | '\u{2060}' | '\u{FEFF}');
+    let is_end = matches!(character, '\u{2028}' | '\u{2029}');
+    is_mark || is_unseen || is_end || character.is_control()
 }
 
 /// What the operating system says, without its number.
@@ -460,10 +507,11 @@ mod tests {
         escaped("a\x1B[1m\n\x7F", "a\\x1B[1m\\x0A\\x7F");
         escaped("\u{80}\u{9B}1m\u{9F}", "\\xC2\\x80\\xC2\\x9B1m\\xC2\\x9F");
         escaped("a\u{202E}b", "a\\xE2\\x80\\xAEb");
-        for mark in "\u{61C}\u{200E}\u{200F}\u{202A}\u{2066}\u{2069}\u{2028}\u{2029}".chars() {
-            let bytes = mark.to_string().into_bytes();
-            let expected: String = bytes.iter().map(|byte| format!("\\x{byte:02X}")).collect();
-            escaped(&mark.to_string(), &expected);
+        let marks = "\u{61C}\u{200E}\u{200F}\u{202A}\u{2066}\u{2069}\u{2028}\u{2029}";
+        for character in marks.chars().chain("\u{200B}\u{2060}\u{FEFF}".chars()) {
+            let name = character.to_string();
+            let expected: String = name.bytes().map(|byte| format!("\\x{byte:02X}")).collect();
+            escaped(&name, &expected);
         }
     }
 

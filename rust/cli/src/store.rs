@@ -3,14 +3,12 @@
 use std::ffi::{OsStr, OsString};
 use std::fs::{self, File};
 use std::io;
-use std::os::unix::fs::MetadataExt;
 use std::time::Duration;
 
 use kveldrim::{Document, Kind, FILE_BOUND};
-use nix::unistd::geteuid;
 
 use crate::disk::{self, Replacement};
-use crate::journal::{self, Pair};
+use crate::journal::{self, Pair, Unread};
 use crate::names::{journals_without_file, Names};
 use crate::report::Trouble;
 
@@ -107,7 +105,7 @@ impl Store {
         let belongs = |name: &OsString| {
             let journal = disk::read_journal(&folder.join(name), journal::MOST);
             let pairs = journal.ok().flatten();
-            let pairs = pairs.and_then(|(bytes, _)| journal::read(&bytes));
+            let pairs = pairs.and_then(|(bytes, _)| journal::read(&bytes).ok());
             pairs.is_some_and(|pairs| pairs.iter().any(|pair| pair.file == self.before.file))
         };
         let journal = folder.join(journals.into_iter().find(belongs)?);
@@ -217,8 +215,7 @@ fn journal_of(names: &Names, open: &File) -> io::Result<Option<Vec<u8>>> {
         let words = format!("{name} beside it is too long for a journal; move it away");
         return Err(io::Error::other(words));
     }
-    let is_own = like.uid() == geteuid().as_raw();
-    if !is_own && !disk::may_replace(like.uid(), &open.metadata()?, &names.folder)? {
+    if !disk::is_believed(&like, &open.metadata()?, &names.folder)? {
         let words = format!("its journal {name} was made by somebody who may not replace the file");
         return Err(io::Error::other(words));
     }
@@ -235,8 +232,13 @@ fn belonging(
     let Some(journal) = journal else {
         return Ok(Some(Pair::new(bytes)));
     };
-    let pairs = journal::read(journal);
-    let pairs = pairs.ok_or_else(|| Trouble::damaged(file, &names.journal_name()))?;
+    let pairs = journal::read(journal).map_err(|unread| {
+        let trouble = match unread {
+            Unread::Damaged => Trouble::damaged,
+            Unread::Newer => Trouble::newer,
+        };
+        trouble(file, &names.journal_name())
+    })?;
     Ok(pairs.into_iter().find(|pair| pair.file == bytes))
 }
 

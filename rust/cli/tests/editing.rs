@@ -11,10 +11,9 @@ use std::process::Command;
 use std::thread;
 use std::time::Duration;
 
-use common::{tool, Folder, Shared, T};
+use common::{tool, Folder, Shared, JOURNAL, T};
 use rustix::fs::{flock, FlockOperation};
-
-const JOURNAL: &str = ".t.kveldrim-journal";
+use sha2::{Digest, Sha256};
 
 /// Each command that needs the journal.
 const COMMANDS: [&[&str]; 5] = [
@@ -30,11 +29,6 @@ fn folder() -> Folder {
 }
 
 impl Folder {
-    /// Runs words that are accepted and write nothing.
-    fn does(&self, words: &[&str]) {
-        self.words(words).writes(b"");
-    }
-
     /// Runs words that are refused, and tells so; the folder is as before.
     fn refuses(&self, status: i32, words: &[&str], told: &str) {
         let before = self.all();
@@ -246,12 +240,12 @@ fn a_damaged_journal() {
     let sound = folder.read(JOURNAL);
     // Version 1 has no digest, so what is wrong in it is found further in.
     let sound = [&sound[..8], &[1], &sound[9..sound.len() - 32]].concat();
-    let record = sound.len() - 26;
-    // No journal at all, one cut short, one of another version, a record of another kind.
+    let record = sound.len() - 28;
+    // No journal at all, one cut short, one of another version without a digest, a record of another kind.
     let damaged = [
         Vec::new(),
         sound[..sound.len() - 1].to_vec(),
-        [&sound[..8], &[3], &sound[9..]].concat(),
+        [&sound[..8], &[4], &sound[9..]].concat(),
         [&sound[..record + 4], &[9], &sound[record + 5..]].concat(),
     ];
     let mut folder = folder;
@@ -266,7 +260,7 @@ fn a_damaged_journal() {
         }
     }
     // A record that does not fit the file.
-    let place = [&sound[..record + 6], &[1], &sound[record + 7..]].concat();
+    let place = [&sound[..record + 8], &[1], &sound[record + 9..]].concat();
     let folder = folder.with(JOURNAL.as_bytes(), &place);
     folder.refuses(1, &["undo", "t"], DAMAGED);
     folder.refuses(1, &["log", "t"], DAMAGED);
@@ -307,22 +301,68 @@ fn a_changed_bit_in_the_journal() {
     assert_eq!(folder.read("t"), T);
 }
 
-/// A journal as the version before wrote it: its edits are there, and the next edit writes version 2.
+/// The bytes of a journal with the digest that follows them.
+fn with_digest(bytes: &[u8]) -> Vec<u8> {
+    [bytes, &Sha256::digest(bytes)].concat()
+}
+
+/// Journals as earlier versions wrote them, with an edit that stands and one that waits: their edits are there, and they go on
+/// with those of persons.
 #[test]
-fn a_journal_of_version_1() {
-    let journal =
-        b"kveldrim\x01\0\0\0\x01\0\0\0\x1b\0\0\0\x1a\0\0\0\x1a\0\0\0[Desktop Entry]\nName=Lesen\n\
-        \x1a\0\0\0\x01\0\x15\0\0\0\x03\0\0\0\x05\0\0\0LesLesen";
-    let folder = Folder::new()
-        .with(b"t", b"[Desktop Entry]\nName=Lesen\n")
-        .with(JOURNAL.as_bytes(), journal);
-    folder.logs("stands: Name in Desktop Entry: \"Les\" became \"Lesen\"\n");
-    assert_eq!(folder.read(JOURNAL), journal);
-    folder.does(&["undo", "t"]);
-    folder.holds("[Desktop Entry]\nName=Les\n");
-    assert_eq!(folder.read(JOURNAL)[..12], *b"kveldrim\x02\0\0\0");
-    folder.does(&["redo", "t"]);
-    folder.holds("[Desktop Entry]\nName=Lesen\n");
+fn journals_of_earlier_versions() {
+    let pairs = b"\x01\0\0\0\x1b\0\0\0\x37\0\0\0\x1a\0\0\0[Desktop Entry]\nName=Lesen\n\
+        \x1a\0\0\0\x01\0\x15\0\0\0\x03\0\0\0\x05\0\0\0LesLesen\
+        \x1d\0\0\0\x01\0\x15\0\0\0\x05\0\0\0\x06\0\0\0LesenLesung";
+    let first = [b"kveldrim\x01\0\0\0", &pairs[..]].concat();
+    let second = with_digest(&[b"kveldrim\x02\0\0\0", &pairs[..]].concat());
+    for journal in [first, second] {
+        let folder = Folder::new()
+            .with(b"t", b"[Desktop Entry]\nName=Lesen\n")
+            .with(JOURNAL.as_bytes(), &journal);
+        let stands = "stands: Name in Desktop Entry: \"Les\" became \"Lesen\"";
+        let waits = "waits: Name in Desktop Entry: \"Lesen\" became \"Lesung\"";
+        folder.logs(&format!("{stands}\n{waits}\n"));
+        assert_eq!(folder.read(JOURNAL), journal);
+        folder.does(&["redo", "t"]);
+        folder.holds("[Desktop Entry]\nName=Lesung\n");
+        assert_eq!(folder.read(JOURNAL)[..12], *b"kveldrim\x03\0\0\0");
+        folder.does(&["undo", "t", "2"]);
+        folder.holds("[Desktop Entry]\nName=Les\n");
+        folder.does(&["redo", "t"]);
+        folder.does(&["set", "t", "Name", "Lesestunde", "--person", "3"]);
+        folder.does(&["remove", "t", "Name", "--person", "4"]);
+        folder.does(&["undo", "t"]);
+        folder.logs(&format!(
+            "{stands}\n\
+            stands: Name in Desktop Entry: \"Lesen\" became \"Lesestunde\", by person 3\n\
+            waits: Name in Desktop Entry: \"Lesestunde\" was removed, by person 4\n"
+        ));
+        folder.does(&["redo", "t"]);
+        folder.does(&["undo", "t", "3"]);
+        folder.holds("[Desktop Entry]\nName=Les\n");
+    }
+}
+
+/// A journal that this command is too old for is not damaged.
+#[test]
+fn a_journal_of_a_newer_version() {
+    let folder = folder();
+    folder.does(&["set", "t", "Name", "Les"]);
+    let own = folder.read(JOURNAL);
+    let newer = [&own[..8], b"\x04\0\0\0", &own[12..own.len() - 32]].concat();
+    let newer = with_digest(&newer);
+    let folder = folder.with(JOURNAL.as_bytes(), &newer);
+    let told =
+        "t: its journal .t.kveldrim-journal was written by a newer kveldrim, so update this one; \
+        nothing was changed";
+    for words in COMMANDS {
+        folder.refuses(1, words, told);
+    }
+    // Nothing follows, as the advice to put it aside.
+    let log = folder.words(&["log", "t"]).told;
+    assert_eq!(log, [told.as_bytes(), b"\n"].concat());
+    folder.does(&["set", "t", "Name", "x", "--discard-journal"]);
+    assert_eq!(folder.read(".t.kveldrim-journal-1"), newer);
 }
 
 #[test]

@@ -421,6 +421,7 @@ fn the_examples_of_the_document() {
     let folder = Folder::new()
         .with(b"good.desktop", &good)
         .with(b"edited.desktop", T)
+        .with(b"kveldrim-persons.txt", b"1 Anna\n")
         .with(b"each.desktop", b"[Desktop Entry]\nName=n\nExec=view %f\n")
         .with(
             b"bad.desktop",
@@ -441,8 +442,8 @@ fn the_examples_of_the_document() {
     write(folder.run(&[b"get", b"--json", b"good.desktop", b"Name"]));
     write(folder.run(&[b"list", b"--json", b"good.desktop", b"Categories"]));
     for words in [
-        &["set", "edited.desktop", "Name", " Lire", "--no-warn"][..],
-        &["set", "edited.desktop", "Icon", "book"],
+        &["set", "edited.desktop", "Name", " Lire", "--person=Anna"][..],
+        &["set", "edited.desktop", "Icon", "book", "--person=2"],
         &["remove", "edited.desktop", "Icon"],
         &["undo", "edited.desktop"],
     ] {

@@ -7,11 +7,9 @@ use std::os::unix::fs::{chown, MetadataExt};
 use std::sync::atomic::{AtomicBool, Ordering};
 use std::thread;
 
-use common::{tool, Folder, Shared, T};
+use common::{tool, Folder, Shared, JOURNAL, T};
 use nix::unistd::User;
 use xattr::FileExt;
-
-const JOURNAL: &str = ".t.kveldrim-journal";
 
 /// Users that every Debian has, with their groups, and one that no system has.
 const GAMES: (u32, u32) = (5, 60);
@@ -315,6 +313,77 @@ fn a_journal_of_somebody_else_as_root() {
     // Where the folder is not sticky, he may replace the file as well.
     folder.mode(".", 0o777);
     folder.run_by(games(), &[b"undo", b"t"]).writes(b"");
+    assert_eq!(folder.read("t"), T);
+}
+
+/// Nor can he say there who made an edit.
+#[test]
+fn persons_of_somebody_else_as_root() {
+    let shared = Shared::new();
+    let games = || shared.command(GAMES.0, GAMES.1, None);
+    let name = "kveldrim-persons.txt";
+    let folder = owned(GAMES, 0o644, 0o1777).with(name.as_bytes(), b"5 Anna\n");
+    let path = fs::canonicalize(&folder.0).unwrap().join(name);
+    chown(&path, Some(MAN.0), Some(MAN.1)).unwrap();
+    let set = [&SET[..], &[b"--person", b"Anna"]].concat();
+    let why = "the file of persons cannot be read: it was made by somebody who may not replace the edited file \
+        (--persons FILE names another)";
+    let told = format!("{}: {why}", path.display());
+    folder.run_by(games(), &set).tells(2, &[&told]);
+    assert_eq!(folder.read("t"), T);
+    for owner in [GAMES, (0, 0)] {
+        chown(&path, Some(owner.0), Some(owner.1)).unwrap();
+        folder.run_by(games(), &set).writes(b"");
+    }
+    chown(&path, Some(MAN.0), Some(MAN.1)).unwrap();
+    folder.run_by(games(), &set).tells(2, &[&told]);
+    // Where no name is needed, it is a warning.
+    let warning = |about: &str| format!("{}: warning: {about}: {why}", path.display());
+    let without_names = warning("persons are told without names");
+    let edit = "Name in Desktop Entry: \"Les";
+    let log = format!(
+        "stands: {edit}en\" became \"Les\", by person 5\n\
+        stands: {edit}\" became \"Les\", by person 5\n"
+    );
+    folder
+        .run_by(games(), &[b"log", b"t"])
+        .tells_and_writes(0, &[&without_names], log.as_bytes());
+    let undo = |who: &[u8]| folder.run_by(games(), &[b"undo", b"t", b"--person", who]);
+    undo(b"7").tells(0, &[&without_names, "t: warning: Name in Desktop Entry"]);
+    undo(b"Anna").tells(0, &[&warning("edits of others are not told as such")]);
+    folder.run_by(games(), &[b"redo", b"t", b"2"]).writes(b"");
+    // His own file of persons counts for himself.
+    let log = folder.run_by(shared.command(MAN.0, MAN.1, None), &[b"log", b"t"]);
+    let line = "Name in Desktop Entry: \"Lesen\" became \"Les\", by \"Anna\" (person 5)";
+    let again = line.replace("Lesen", "Les");
+    log.writes(format!("stands: {line}\nstands: {again}\n").as_bytes());
+    folder.mode(".", 0o777);
+    folder.run_by(games(), &set).writes(b"");
+}
+
+/// A file of persons that may not be read is as one with a fault.
+#[test]
+fn persons_that_may_not_be_read_as_root() {
+    let shared = Shared::new();
+    let games = |words: &[&[u8]], folder: &Folder| {
+        folder.run_by(shared.command(GAMES.0, GAMES.1, None), words)
+    };
+    let name = "kveldrim-persons.txt";
+    let folder = owned(GAMES, 0o644, 0o777).with(name.as_bytes(), b"5 Anna\n");
+    folder.mode(name, 0o600);
+    let path = fs::canonicalize(&folder.0).unwrap().join(name);
+    let why = "cannot be read: Permission denied";
+    let told = format!("{}: the file of persons {why}", path.display());
+    let by_name: [&[u8]; 2] = [b"--person", b"Anna"];
+    games(&[&SET[..], &by_name].concat(), &folder).tells(2, &[&told]);
+    games(&[&SET[..], &[b"--person", b"5"]].concat(), &folder).writes(b"");
+    let named = format!("{name}: the file of persons (--persons or KVELDRIM_PERSONS) {why}");
+    let log: [&[u8]; 4] = [b"log", b"t", b"--persons", name.as_bytes()];
+    games(&log, &folder).tells(2, &[&named]);
+    let undo = games(&[&[b"undo", &b"t"[..]], &by_name[..]].concat(), &folder);
+    let about = "warning: edits of others are not told as such";
+    let warning = format!("{}: {about}: the file of persons {why}", path.display());
+    undo.tells(0, &[&warning]);
     assert_eq!(folder.read("t"), T);
 }
 

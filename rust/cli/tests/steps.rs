@@ -4,9 +4,7 @@ mod common;
 
 use std::process::Command;
 
-use common::{Folder, Outcome, T};
-
-const JOURNAL: &str = ".t.kveldrim-journal";
+use common::{Folder, JOURNAL, T};
 
 fn folder() -> Folder {
     Folder::new().with(b"t", T)
@@ -15,15 +13,10 @@ fn folder() -> Folder {
 impl Folder {
     /// Three edits that stand.
     fn edited(self) -> Folder {
-        self.words(&["set", "t", "Name", "Les"]).writes(b"");
-        self.words(&["set", "t", "Icon", "book"]).writes(b"");
-        self.words(&["remove", "t", "Name[fr]"]).writes(b"");
+        self.does(&["set", "t", "Name", "Les"]);
+        self.does(&["set", "t", "Icon", "book"]);
+        self.does(&["remove", "t", "Name[fr]"]);
         self
-    }
-
-    /// The names and bytes of the file and its journal.
-    fn both(&self) -> (Vec<String>, Vec<u8>, Vec<u8>) {
-        (self.names(), self.read("t"), self.read(JOURNAL))
     }
 }
 
@@ -120,8 +113,9 @@ fn an_edit_that_leaves_a_file_incomplete_is_warned_of() {
     folder.words(&["undo", "t"]).writes(b"");
     folder
         .words(&["set", "t", "Hidden", "yes", "--dry-run"])
-        .told_and_wrote(
-            "t:6: warning: with this edit",
+        .tells_and_writes(
+            0,
+            &["t:6: warning: with this edit"],
             b"Hidden in Desktop Entry: \"yes\" would be added\n",
         );
 }
@@ -147,21 +141,6 @@ fn an_exec_that_cannot_be_expanded_is_warned_of() {
         0,
         &["t: warning: with this edit Exec can no longer be expanded: there is no key Name"],
     );
-}
-
-impl Outcome {
-    fn told_and_wrote(&self, start: &str, out: &[u8]) {
-        let told = String::from_utf8_lossy(&self.told);
-        assert!(
-            told.starts_with(start) && told.lines().count() == 1,
-            "{told}"
-        );
-        assert_eq!(
-            self.out.escape_ascii().to_string(),
-            out.escape_ascii().to_string()
-        );
-        assert_eq!(self.status, 0);
-    }
 }
 
 /// A text that looks like the log's own words cannot be mistaken for them.
@@ -193,7 +172,7 @@ fn the_log_is_safe_on_a_terminal() {
 fn a_dry_run_that_cannot_be_written() {
     let folder = folder();
     let mut command = Command::new("sh");
-    command.args([
+    command.env_clear().args([
         "-c",
         "exec \"$0\" \"$@\" > /dev/full",
         env!("CARGO_BIN_EXE_kveldrim"),
@@ -214,7 +193,7 @@ fn the_log_as_objects() {
         .lines()
         .map(|line| serde_json::from_str(line).unwrap())
         .collect();
-    let of = |state: &str, key: &str, old: Option<&str>, new: Option<&str>| serde_json::json!({ "state": state, "group": "Desktop Entry", "key": key, "old": old, "new": new });
+    let of = |state: &str, key: &str, old: Option<&str>, new: Option<&str>| serde_json::json!({ "state": state, "group": "Desktop Entry", "key": key, "old": old, "new": new, "person": 0, "name": null });
     assert_eq!(
         lines,
         [

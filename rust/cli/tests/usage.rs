@@ -37,6 +37,22 @@ fn each_command_has_help() {
             );
         }
     }
+    let help = |words: &[&str]| {
+        run(words)
+            .1
+            .split_whitespace()
+            .collect::<Vec<_>>()
+            .join(" ")
+    };
+    for (words, part) in [
+        (&["--help"][..], "KVELDRIM_PERSON is who edits"),
+        (&["--help"], "KVELDRIM_PERSONS is the file of persons"),
+        (&["set", "--help"], "Who edits: a number"),
+        (&["undo", "--help"], "Who you are: a number"),
+        (&["redo", "--help"], "Who you are: a number"),
+    ] {
+        assert!(help(words).contains(part), "{}", help(words));
+    }
     let (status, _, told) = run(&[]);
     assert_eq!(status, 2);
     assert!(told.contains("Usage: kveldrim <COMMAND>"), "{told}");
@@ -74,10 +90,13 @@ fn completions() {
         let (status, script, _) = run(&["completions", shell]);
         assert_eq!(status, 0);
         assert!(script.contains(part), "{shell}");
-        for command in COMMANDS {
-            assert!(script.contains(command), "{shell} {command}");
+        for word in COMMANDS.into_iter().chain(["dry-run", "persons"]) {
+            assert!(script.contains(word), "{shell} {word}");
         }
     }
+    let (_, script, _) = run(&["completions", "zsh"]);
+    let mut lines = script.lines().filter(|line| line.contains("--persons="));
+    assert!(lines.any(|line| line.contains(":FILE:_files")), "{script}");
     assert_eq!(run(&["completions", "cmd"]).0, 2);
 }
 
@@ -114,6 +133,10 @@ fn bad_usage_is_2() {
         &[b"undo", b"t", b"t"],
         &[b"redo", b"t", b"--group", b"x"],
         &[b"log", b"t", b"--discard-journal"],
+        &[b"log", b"t", b"--person", b"1"],
+        &[b"set", b"t", b"Name", b"a", b"--person", b"Anna"],
+        &[b"set", b"t", b"Name", b"a", b"--person=-1"],
+        &[b"undo", b"t", b"--persons"],
         &[b"merge", b"t", b"t"],
         &[b"merge", b"t", b"t", b"t", b"t"],
         &[b"merge", b"-", b"t", b"-"],

@@ -14,6 +14,9 @@ use std::sync::atomic::{AtomicU32, Ordering};
 pub const T: &[u8] =
     b"[Desktop Entry]\nType=Application\nName=Lesen\nName[fr]=Lire\nExec=view %F\n";
 
+/// The journal of a file `t`.
+pub const JOURNAL: &str = ".t.kveldrim-journal";
+
 /// A folder of a test's own, removed at the end.
 pub struct Folder(pub PathBuf);
 
@@ -53,7 +56,9 @@ impl Folder {
     /// Runs the command in the folder; one that has not ended after 20 seconds ends with status 124.
     pub fn run_in_time(&self, words: &[&str]) -> Outcome {
         let mut command = Command::new("timeout");
-        command.args(["20", env!("CARGO_BIN_EXE_kveldrim")]);
+        command
+            .env_clear()
+            .args(["20", env!("CARGO_BIN_EXE_kveldrim")]);
         self.run_by(command, &bytes(words))
     }
 
@@ -100,13 +105,28 @@ impl Folder {
         names
     }
 
+    /// The names in the folder, and the bytes of the file `t` and its journal.
+    pub fn both(&self) -> (Vec<String>, Vec<u8>, Vec<u8>) {
+        (self.names(), self.read("t"), self.read(JOURNAL))
+    }
+
     pub fn run(&self, words: &[&[u8]]) -> Outcome {
         self.run_in(&[], words)
     }
 
     /// As [`Folder::run`], with words that are text.
     pub fn words(&self, words: &[&str]) -> Outcome {
-        self.run(&bytes(words))
+        self.words_in(&[], words)
+    }
+
+    /// Runs words that are accepted and write nothing.
+    pub fn does(&self, words: &[&str]) {
+        self.words(words).writes(b"");
+    }
+
+    /// As [`Folder::run_in`], with words that are text.
+    pub fn words_in(&self, variables: &[(&str, &str)], words: &[&str]) -> Outcome {
+        self.run_in(variables, &bytes(words))
     }
 }
 
@@ -146,7 +166,9 @@ impl Shared {
     /// The command as it is run by a user with a group and perhaps one more.
     pub fn command(&self, user: u32, group: u32, more: Option<u32>) -> Command {
         let mut command = Command::new("setpriv");
-        command.args([format!("--reuid={user}"), format!("--regid={group}")]);
+        command
+            .env_clear()
+            .args([format!("--reuid={user}"), format!("--regid={group}")]);
         match more {
             Some(more) => command.arg(format!("--groups={more}")),
             None => command.arg("--clear-groups"),
@@ -183,13 +205,19 @@ impl Outcome {
 
     /// Nothing is written; each line that is told starts so.
     pub fn tells(&self, status: i32, starts: &[&str]) {
+        self.tells_and_writes(status, starts, b"");
+    }
+
+    /// Each line that is told starts so, and just this is written.
+    pub fn tells_and_writes(&self, status: i32, starts: &[&str], out: &[u8]) {
         let told = String::from_utf8(self.told.clone()).unwrap();
         let lines: Vec<&str> = told.lines().collect();
         assert_eq!(lines.len(), starts.len(), "{told}");
         for (line, start) in lines.iter().zip(starts) {
             assert!(line.starts_with(start), "{line}, not {start}");
         }
-        assert_eq!(self.out.escape_ascii().to_string(), "");
+        let (written, out) = (self.out.escape_ascii(), out.escape_ascii());
+        assert_eq!(written.to_string(), out.to_string());
         assert_eq!(self.status, status);
     }
 }
