@@ -58,7 +58,8 @@
  *                               a list item or location that no argument can hold                  0                  0
  *     11  KVELDRIM_NO_ROOM      the output is too small; the edited file is over its room or
  *                               32,768 bytes                                                       0                  0
- *     12  KVELDRIM_NOTHING      nothing to undo or redo; no such record                            0                  0
+ *     12  KVELDRIM_NOTHING      nothing to undo or redo; no such record; fewer records stand
+ *                               than are to be forgotten                                           0                  0
  *     13  KVELDRIM_JOURNAL_FULL the bytes standing and the new record are over the journal's room
  *                               or 65,536 bytes                                                    0                  0
  *     14  KVELDRIM_DAMAGED      a length is over its room, used over 65,536 or standing over used;
@@ -108,10 +109,14 @@
  *  - A set of a key that is not there puts in Key=value and LF behind the group's last entry, or behind its header if it has
  *    none; LF and Key=value if there is no LF to go behind. A set never makes a group (8).
  *  - A remove takes out the line with its LF; a last line without LF goes with the LF before it.
- *  - Both write their record where the standing ones end and make it the last: *used and *standing are its end. So an edit
- *    after an undo forgets what waited. Bytes of the journal behind the new *used stay as they were.
+ *  - Both write their record where the standing ones end and make it the last: *used and *standing are its end. So nothing
+ *    waits after an edit. Bytes of the journal behind the new *used stay as they were.
  *  - An undo and a redo change no byte of the journal, and of the numbers only *file_len and *standing.
  *  - A file that shrinks has zeros up to its old length. Bytes behind both lengths stay as they were.
+ *
+ * kveldrim_forget makes room in a journal and is not handed the file. The oldest records that stand go; all others, those
+ * that wait too, move to the start of the journal unchanged, and *used and *standing fall by the bytes that went. The bytes
+ * from the new *used up to the old one become zeros; those behind the old one stay as they were.
  *
  * Example: an edit and its undo
  *
@@ -133,6 +138,18 @@
  *     for (uint64_t n = 0; kveldrim_person(journal, sizeof journal, used, standing, n, &place, &person) == 0; n++)
  *         printf("edit %llu: person %u\n", (unsigned long long) n, (unsigned) person);
  *
+ * Example: an edit in a full journal
+ *
+ * Where there is no room for its record, the oldest edits are forgotten one by one until there is, or none stands. The
+ * buffers and numbers are those of the first example of an edit.
+ *
+ *     do
+ *         refused = kveldrim_set(file, sizeof file, &file_len, journal, sizeof journal, &used, &standing,
+ *                                7, (const uint8_t *) "Desktop Entry", 13, (const uint8_t *) "Name", 4,
+ *                                (const uint8_t *) "Book", 4, &place, &byte);
+ *     while (refused == KVELDRIM_JOURNAL_FULL
+ *            && kveldrim_forget(journal, sizeof journal, &used, &standing, 1, &place) == 0);
+ *
  * Forms
  *
  * A group's name is one or more of the bytes 0x20 to 0x7E without [ and ]. A key is one or more of A-Z a-z 0-9 and -.
@@ -149,8 +166,8 @@
 extern "C" {
 #endif
 
-/* The number of this interface: raised whenever a signature changes. kveldrim_abi tells that of the library. */
-#define KVELDRIM_ABI 2
+/* The number of this interface: raised whenever a call is new or its signature changes. kveldrim_abi tells the library's. */
+#define KVELDRIM_ABI 3
 
 /* The most bytes that a file may have. */
 #define KVELDRIM_FILE_BOUND 32768
@@ -360,6 +377,19 @@ uint32_t kveldrim_redo(uint8_t *file, size_t file_room, uint64_t *file_len,
 uint32_t kveldrim_person(const uint8_t *journal, size_t journal_room, uint64_t used, uint64_t standing,
                          uint64_t n,
                          uint64_t *place, uint16_t *person);
+
+/*
+ * Forgets the oldest k edits that stand. The file stays as it is; no undo takes these edits back any more, and one that
+ * comes to where they ended finds nothing (12). Their room is used again by later edits.
+ *
+ *     journal .. standing   the journal's buffer and its two numbers, as said above under Edits
+ *     k                     how many edits; with 0 nothing changes
+ *
+ * Refusals: 14, then 12 if fewer than k records stand; those that wait do not count.
+ */
+uint32_t kveldrim_forget(uint8_t *journal, size_t journal_room, uint64_t *used, uint64_t *standing,
+                         uint64_t k,
+                         uint64_t *place);
 
 /*
  * Expands Exec of the group Desktop Entry into the arguments of one run. Nothing is started. The first argument is the

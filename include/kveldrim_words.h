@@ -35,7 +35,7 @@ static inline const char *kveldrim_words(uint32_t number) {
     case KVELDRIM_NO_ROOM:
         return "the result has no room in its buffer, or the edited file would be over 32,768 bytes";
     case KVELDRIM_NOTHING:
-        return "there is nothing to undo or redo, or no such record";
+        return "there is nothing to undo or redo, no such record, or fewer edits stand than are to be forgotten";
     case KVELDRIM_JOURNAL_FULL:
         return "the record has no room in the journal";
     case KVELDRIM_DAMAGED:

@@ -1,18 +1,19 @@
 -- Demand 3: whatever the calls, the buffers tell what the book tells. Assumes nothing.
 use mathlib.Core.Path.{_≡_, refl, sym, ap, _∙_}
-use Prim.Native.Nat.{ℕ, _+_, _-_, _≤_, _<_}
+use Prim.Native.Nat.{ℕ, zero, suc, _+_, _-_, _≤_, _<_}
 use native.Mathlib.Omega.{arith}
 use mathlib.Core.Bool.{Bool, true, false}
 use mathlib.Core.List.{List, [], _∷_, _++_, reverse, reverseAux}
-use lib.ListN.{length, take, length-append}
+use lib.ListN.{length, take, drop, length-append}
 use lib.Seq.{take-at, take-append-seam, take-take}
+use lib.Dec.{leb}
 use borrow.Author.Tests.{le-leb, leb-true}
 use Rattle.base.specs.Lists.{all, joined}
 use Rattle.base.specs.Over.{over}
-use Rattle.base.proofs.Over.{take-over, length-over}
+use Rattle.base.proofs.Over.{length-over}
 use Rattle.base.proofs.Tests.{and-both}
 use Rattle.fault.specs.declared.Fault.the-variants.{NoRoom, NothingLeft, JournalFull}
-use Rattle.fault.specs.Answer.{Answer, given, refused, then}
+use Rattle.fault.specs.Answer.{Answer, given, refused, then, atExit}
 use Rattle.record.specs.Record.{recordBytes, listBytes}
 use Rattle.rows.specs.Title.{desktopEntry}
 use Rattle.wellformed.specs.Check.{fileMost}
@@ -23,16 +24,17 @@ use Rattle.splice.proofs.Splits.{splits-length, buffer-content, buffer-length}
 use Rattle.change.specs.Change.{Request, editOf}
 use Rattle.change.proofs.Accepted.{edit-splits, edit-stands, edit-undone, edit-undo-stands}
 use Rattle.change.proofs.Kept.{edit-keeps}
-use Rattle.journal.specs.Journal.{Authored, by, personOf, editRecord, editLength}
-use Rattle.journal.specs.Lent.{numbersFit, journalIn}
-use Rattle.journal.specs.Lent as journal
+use Rattle.journal.specs.Journal.{Authored, by, personOf, editRecord, editLength, lengths, oldest, newer}
+use Rattle.journal.specs.Lent.{numbersFit, journalIn, without, forget}
+use Rattle.journal.specs.Lent as alone
 use Rattle.journal.proofs.Numbers.{bounds-fit}
-use Rattle.journal.proofs.Records.{Small, edit-length, AllSmall, recorded, recorded-length, journal-back, lengths-reverse, recorded-parts, recorded-more, lengths, small-reverse}
-use Rattle.edit.specs.Calls.{State, content, journalOf, lengthsFit, opened, fileFits, recordFits, applied, request, replayed, undo, redo, atExit}
-use Rattle.demands.specs.Book.{Call, Do, Undo, Redo, Book, fileAfter, recordsAfter, bookFile, bookStanding, withLists, bookRequest, bookCall}
-use Rattle.demands.specs.Demand3.{stateCall, personFits, told, toldOver, leftBy, startState, startBook, AsInTheBook, Demand3}
+use Rattle.journal.proofs.Records.{Small, edit-length, AllSmall, recorded, recorded-length, journal-back, lengths-reverse, recorded-parts, recorded-more, small-reverse, lengths-parted, recorded-rest}
+use Rattle.journal.proofs.Forgotten.{rest}
+use Rattle.edit.specs.Calls.{State, content, journalOf, lengthsFit, opened, fileFits, recordFits, applied, request, replayed, undo, redo}
+use Rattle.demands.specs.Book.{Call, Do, Undo, Redo, Forget, Book, fileAfter, recordsAfter, bookFile, bookStanding, withLists, bookRequest, withoutOldest, bookForget, bookCall}
+use Rattle.demands.specs.Demand3.{withJournal, stateCall, personFits, told, toldOver, leftBy, startState, startBook, AsInTheBook, Demand3}
 use Rattle.demands.proofs.FileLaws.{checks}
-use Rattle.demands.proofs.EditLaws.{fits-most, fits-room, fits-record, requested}
+use Rattle.demands.proofs.EditLaws.{fits-most, fits-room, fits-record, requested, requested-used}
 
 -- ---- what the book's lists stand for
 
@@ -116,8 +118,8 @@ module _ (s : State) (b : Book) (h : Rep s b) where
   unfolding opened lengthsFit
   opens = rw (le-leb (s .size) (length (s .file)) (h .size), numbers-fit, h .text, checks (bookFile b) (h .well), journal-is)
 
-  pub opens-journal : journal.opened (journalOf s) ≡ given (record { stand = h .es; wait = h .ws })
-  unfolding journal.opened
+  pub opens-journal : alone.opened (journalOf s) ≡ given (record { stand = h .es; wait = h .ws })
+  unfolding alone.opened
   opens-journal = rw (numbers-fit, journal-is)
 
 -- ---- one call
@@ -221,8 +223,7 @@ module _ (s : State) (b : Book) (h : Rep s b) (e : Authored Edit) (k : s .standi
 
   written-bytes : take (s .standing + editLength e) (over (s .journal) (s .standing) (recordBytes (editRecord e))) ≡ recorded (reverse (e ∷ h .es))
   written-bytes =
-      ap (λ (n : ℕ). take (s .standing + n) (over (s .journal) (s .standing) (recordBytes (editRecord e)))) (sym (edit-length e))
-      ∙ take-over (s .journal) (s .standing) (recordBytes (editRecord e)) record-room
+      requested-used s (bookFile b) e k
       ∙ ap (λ (r : List ℕ). r ++ recordBytes (editRecord e)) (stands-first s b h)
       ∙ sym (recorded-more e (h .es))
 
@@ -291,10 +292,72 @@ step-do s b q p h = by-edit (editOf (bookFile b) (q .what)) refl
             step-by s b (Do q) (given (requested s (bookFile b) (by (q .author) d))) (given (withLists b (q ∷ b .standing) []))
             (rw (opens s b h, h .text, e, h .room, u, h .journal-room, ← n, v)) (rw (e, u, v)) refl (rep-asked s b q d h p e u v)
 
+-- ---- forgetting
+
+past-length : (room : ℕ) (t : List ℕ) (qs : List (Authored Request)) (es : List (Authored Edit)) → Past room t qs es → length qs ≡ length es
+past-length room t [] [] h = refl
+past-length room t [] (e ∷ es) h = absurd h
+past-length room t (q ∷ qs) [] h = absurd h
+past-length room t (q ∷ qs) (e ∷ es) h = ap suc (past-length room t qs es (h .1))
+
+-- the requests but the oldest, from the file after these
+pub after-parted : (n : ℕ) (t : List ℕ) (qs : List (Authored Request)) → fileAfter (fileAfter t (drop n qs)) (take n qs) ≡ fileAfter t qs
+unfolding fileAfter
+after-parted zero t qs = refl
+after-parted (suc n) t [] = refl
+after-parted (suc n) t (q ∷ qs) = rw (after-parted n t qs)
+
+past-parted : (n room : ℕ) (t : List ℕ) (qs : List (Authored Request)) (es : List (Authored Edit)) → Past room t qs es → Past room (fileAfter t (drop n qs)) (take n qs) (take n es)
+past-parted zero room t qs es h = tt
+past-parted (suc n) room t [] [] h = tt
+past-parted (suc n) room t [] (e ∷ es) h = absurd h
+past-parted (suc n) room t (q ∷ qs) [] h = absurd h
+past-parted (suc n) room t (q ∷ qs) (e ∷ es) h = (rw (after-parted n t qs) (h .0), past-parted n room t qs es (h .1))
+
+rep-forgot : (s : State) (b : Book) → (h : Rep s b) → (k : ℕ) → length (b .standing) ≡ length (h .es)
+    → Rep (withJournal s (without (lengths (oldest k (h .es))) (journalOf s))) (withoutOldest b k)
+rep-forgot s b h k n =
+    let m : ℕ = length (h .es) - k in
+    let gone : ℕ = lengths (oldest k (h .es)) in
+    let f = after-parted (length (b .standing) - k) (b .start) (b .standing) in
+    let l = lengths-parted m (h .es) in
+    let w = rest (journalOf s) gone (h .inside) in
+    record {
+      es = newer k (h .es);
+      ws = h .ws;
+      text = h .text ∙ sym f;
+      room = h .room;
+      size = h .size;
+      journal-room = w .room ∙ h .journal-room;
+      bytes = w .bytes ∙ ap (drop gone) (h .bytes) ∙ recorded-rest m (h .es) (h .ws);
+      standing = omega (arith, h .standing);
+      used = omega (arith, h .used);
+      inside = omega (arith, h .inside, w .room);
+      most = omega (arith, h .most);
+      stood = rw n (past-parted m (b .fileRoom) (b .start) (b .standing) (h .es) (h .stood));
+      waits = rw f (h .waits);
+      fits = rw f (h .fits);
+      well = rw f (h .well);
+    }
+
+step-forget : (s : State) (b : Book) (k : ℕ) → Rep s b → Step s b (Forget k)
+unfolding forget bookForget
+step-forget s b k h = go (leb k (length (h .es))) refl
+  where
+    n : length (b .standing) ≡ length (h .es)
+    n = past-length (b .fileRoom) (b .start) (b .standing) (h .es) (h .stood)
+
+    go : (x : Bool) → leb k (length (h .es)) ≡ x → Step s b (Forget k)
+    go false u = step-by s b (Forget k) (refused NothingLeft) (refused NothingLeft) (rw (opens-journal s b h, u)) (rw (n, u)) refl h
+    go true u =
+        step-by s b (Forget k) (given (withJournal s (without (lengths (oldest k (h .es))) (journalOf s)))) (given (withoutOldest b k))
+        (rw (opens-journal s b h, u)) (rw (n, u)) refl (rep-forgot s b h k n)
+
 pub step : (s : State) (b : Book) (c : Call) → personFits c ≡ true → Rep s b → Step s b c
 step s b (Do q) p h = step-do s b q (omega (arith, leb-true (personOf (q .author)) 65535 p)) h
 step s b Undo p h = step-undo s b h
 step s b Redo p h = step-redo s b h
+step s b (Forget k) p h = step-forget s b k h
 
 -- ---- every list of calls
 

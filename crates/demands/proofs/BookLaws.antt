@@ -3,9 +3,11 @@ use mathlib.Core.Path.{_≡_, refl}
 use Prim.Native.Nat.{ℕ}
 use mathlib.Core.Bool.{not, _&&_, _||_}
 use mathlib.Core.List.{List, [], _∷_}
+use lib.ListN.{length}
+use lib.Dec.{leb}
 use Rattle.base.specs.Lists.{any, last}
 use Rattle.fault.specs.declared.Fault.{Fault}
-use Rattle.fault.specs.declared.Fault.the-variants.{NoPlainKey, BadArgument, Missing, UnfitText, NoRoom, JournalFull, PostfixesRemain}
+use Rattle.fault.specs.declared.Fault.the-variants.{NoPlainKey, BadArgument, Missing, UnfitText, NoRoom, NothingLeft, JournalFull, PostfixesRemain}
 use Rattle.fault.specs.Table.{placeOf, byteOf}
 use Rattle.fault.proofs.Refusals.{IfRefused, if-bind, if-need, if-some, of-refusal}
 use Rattle.text.specs.Escape.{fitText}
@@ -17,7 +19,7 @@ use Rattle.splice.specs.Edit.{spliced}
 use Rattle.change.specs.Change.{Request, Set, Remove, isPlain, ofGroup, postfixOf, setEdit, removeEdit, editOf}
 use Rattle.journal.specs.Journal.{Authored, by}
 use Rattle.edit.specs.Calls.{fileFits, recordFits}
-use Rattle.demands.specs.Book.{Call, Do, Undo, Redo, Book, bookFile, bookStanding, bookRequest, bookUndo, bookRedo, bookCall, BookRefusesAtZero}
+use Rattle.demands.specs.Book.{Call, Do, Undo, Redo, Forget, Book, bookFile, bookStanding, bookRequest, bookUndo, bookRedo, bookForget, bookCall, BookRefusesAtZero}
 
 -- what holds of these five holds of every refusal of a request's edit
 pub request-refusals : (P : Fault → Type 0) → P BadArgument → P UnfitText → P Missing → P (NoPlainKey 0) → P PostfixesRemain → (file : List ℕ) (q : Request) → IfRefused P (editOf file q)
@@ -47,7 +49,7 @@ redo-zero b [] = (refl, refl)
 redo-zero b (q ∷ qs) = tt
 
 call-zero : (b : Book) (c : Call) → IfRefused AtZero (bookCall b c)
-unfolding bookRequest
+unfolding bookRequest bookForget
 call-zero b (Do q) =
     let zero : (_≡_ {A = ℕ} 0 0) × (_≡_ {A = ℕ} 0 0) = (refl, refl) in
     if-bind AtZero (editOf (bookFile b) (q .what)) _ (request-refusals AtZero zero zero zero zero zero (bookFile b) (q .what))
@@ -55,6 +57,7 @@ call-zero b (Do q) =
     (λ _. if-need AtZero (recordFits (b .journalRoom) (bookStanding b) (by (q .author) e)) JournalFull _ zero (λ _. tt)))
 call-zero b Undo = undo-zero b (b .standing)
 call-zero b Redo = redo-zero b (b .waiting)
+call-zero b (Forget k) = if-need AtZero (leb k (length (b .standing))) NothingLeft _ (refl, refl) (λ _. tt)
 
 pub book-refuses-at-zero : BookRefusesAtZero
 unfolding BookRefusesAtZero

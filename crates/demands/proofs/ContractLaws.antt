@@ -9,17 +9,19 @@ use Rattle.base.proofs.Tests.{no, all-weaker}
 use Rattle.fault.specs.declared.Fault.{Fault}
 use Rattle.fault.specs.declared.Fault.the-variants.{TooLong, BadLine, FirstGroup, RepeatedGroup, RepeatedKey, NoPlainKey, BadArgument, Missing, BadEscape, UnfitText, NoRoom, NothingLeft, JournalFull, Damaged, BadExec, BadCode, PostfixesRemain, Incomplete}
 use Rattle.fault.specs.Table.{numberOf, placeOf, byteOf}
-use Rattle.fault.specs.Answer.{Answer, given, refused}
+use Rattle.fault.specs.Answer.{Answer, given, refused, then, atExit}
 use Rattle.journal.specs.Journal.{Author, NoPerson, Person, by, kindOf}
-use Rattle.edit.specs.Calls.{State, content, atExit}
+use Rattle.journal.specs.Lent as alone
+use Rattle.journal.specs.Lent.{Lent, forget}
+use Rattle.edit.specs.Calls.{State, content, journalOf}
 use Rattle.edit.specs.Step as step
 use Rattle.edit.specs.Step.{Made, answered, Numbers}
 use Rattle.edit.specs.declared.Edited.{Edited}
 use Rattle.edit.specs.declared.Edited.the-variants as edited
 use Rattle.kveldrim.specs.Abi.{codeOf, placeIn, byteIn}
-use Rattle.demands.specs.Book.{Call, Do, Undo, Redo, bookCall}
-use Rattle.demands.specs.Demand3.{stateCall, personFits, writesKind, Told, toldOf, told, toldOver, leftBy, startState, startBook}
-use Rattle.demands.specs.Contracts.{Chain, no-call, one-call, Demand3Of, toldBy, after, ByContract, made, toldIn, ByExport, called, Demand3OfContracts, Demand3OfExports}
+use Rattle.demands.specs.Book.{Call, Do, Undo, Redo, Forget, bookCall}
+use Rattle.demands.specs.Demand3.{withJournal, stateCall, personFits, writesKind, Told, toldOf, told, toldOver, leftBy, startState, startBook}
+use Rattle.demands.specs.Contracts.{Chain, no-call, one-call, Demand3Of, toldBy, after, ByContract, made, forgot, toldIn, ByExport, called, forgotten, Demand3OfContracts, Demand3OfExports}
 use Rattle.demands.proofs.Agreement.{agrees, start-rep, as-in-the-book}
 
 -- ---- chains of calls that do as the definitions say
@@ -43,6 +45,7 @@ old-fits (Do q) e = by-author (q .author) e
     by-author (Person n) e = absurd (false≢true e)
 old-fits Undo e = refl
 old-fits Redo e = refl
+old-fits (Forget k) e = refl
 
 module _ (step : State → Call → Told → State → Type 0) (defined : (s : State) (c : Call) (x : Told) (t : State) → step s c x t → Defined s c x t) where
   follows : {s : State} {cs : List Call} {xs : List Told} {u : State} → Chain step s cs xs u → Follows s cs xs u
@@ -79,12 +82,28 @@ leaves s (given t) (edited.Refused f) file journal m = let h = m .answer in no (
 leaves s (refused f) (edited.Done x y z) file journal m = let h = m .answer in no (cc)
 leaves s (refused f) (edited.Refused g) file journal m = rw (m .file-is, m .journal-is)
 
+-- ---- `journal::forget`
+
+told-then : {A B : Type 0} (h : A → B) (a : Answer A) → told a ≡ told (then h a)
+told-then h (given x) = refl
+told-then h (refused f) = refl
+
+leaves-forgot : (s : State) (a : Answer Lent) (journal : List ℕ) → journal ≡ atExit (journalOf s) a .journal
+    → withJournal s (atExit (alone.lent journal (s .used) (s .standing)) a) ≡ atExit s (then (withJournal s) a)
+leaves-forgot s (given t) journal h = refl
+leaves-forgot s (refused f) journal h = rw h
+
 pub demand3-of-contracts : Demand3OfContracts
 unfolding Demand3OfContracts
 demand3-of-contracts = demand3-of ByContract defined
   where
     defined : (s : State) (c : Call) (x : Told) (t : State) → ByContract s c x t → Defined s c x t
     defined _ _ _ _ (made {s} {c} {r} {file} {journal} m) = record { tells = tells (stateCall s c) r (m .answer); leaves = leaves s (stateCall s c) r file journal m }
+    defined _ _ _ _ (forgot {s} {k} {r} {journal} m) =
+        record {
+          tells = ap told (m .answer) ∙ told-then (withJournal s) (forget (journalOf s) k);
+          leaves = ap (λ (a : Answer Lent). withJournal s (atExit (alone.lent journal (s .used) (s .standing)) a)) (m .answer) ∙ leaves-forgot s (forget (journalOf s) k) journal (m .journal-is);
+        }
 
 -- ---- the exported functions
 
@@ -109,9 +128,13 @@ refused-in (BadCode at) = refl
 refused-in PostfixesRemain = refl
 refused-in (Incomplete line) = refl
 
-told-in : (a : Answer State) → toldIn (codeOf a) (placeIn a) (byteIn a) ≡ told a
+told-in : {A : Type 0} (a : Answer A) → toldIn (codeOf a) (placeIn a) (byteIn a) ≡ told a
 told-in (given t) = refl
 told-in (refused f) = refused-in f
+
+left-forgot : (s : State) (a : Answer Lent) → withJournal s (atExit (journalOf s) a) ≡ atExit s (then (withJournal s) a)
+left-forgot s (given t) = refl
+left-forgot s (refused f) = refl
 
 pub demand3-of-exports : Demand3OfExports
 unfolding Demand3OfExports
@@ -122,4 +145,11 @@ demand3-of-exports = demand3-of ByExport defined
         record {
           tells = rw (m .returned .code-is, m .returned .place-is, m .returned .byte-is) (told-in (stateCall s c));
           leaves = λ i. record { file = m .file-is i; size = m .size-is i; journal = m .journal-is i; used = m .used-is i; standing = m .standing-is i };
+        }
+    defined _ _ _ _ (forgotten {s} {k} m) =
+        let a : Answer Lent = forget (journalOf s) k in
+        let w = m .returned in
+        record {
+          tells = (λ i. toldIn (w .code-is i) (w .place-is i) (w .byte-is i)) ∙ told-in a ∙ told-then (withJournal s) a;
+          leaves = ap (withJournal s) (m .left) ∙ left-forgot s a;
         }

@@ -1,14 +1,16 @@
 -- An accepted set or remove leaves a well-formed file, is read back, and changes what no other key reads. Assumes nothing.
 use mathlib.Core.Path.{_≡_, refl, sym, ap, _∙_}
 use Prim.Native.Nat.{ℕ, _+_, _≤_}
+use native.Mathlib.Omega.{arith}
 use mathlib.Core.Bool.{true, false, _&&_}
 use mathlib.Core.Option.{Option, none, some, Option·map}
-use mathlib.Core.List.{List, []}
-use lib.ListN.{length}
+use mathlib.Core.List.{List, [], _++_}
+use lib.ListN.{length, take}
 use borrow.Author.Tests.{leb-true}
 use lib.Dec.{leb}
 use Rattle.base.specs.Lists.{part}
 use Rattle.base.specs.Over.{over}
+use Rattle.base.proofs.Over.{take-over}
 use Rattle.base.proofs.Tests.{no, and-both, by-test}
 use Rattle.fault.specs.declared.Fault.the-variants.{BadArgument, Missing, NoRoom, JournalFull, Damaged}
 use Rattle.fault.specs.Answer.{Answer, given, refused, _>>=_, need, some-or, then, accepted}
@@ -33,7 +35,8 @@ use Rattle.change.proofs.LineValues.{valueIn, AlikeBut, value-file}
 use Rattle.change.proofs.Accepted.{set-of, remove-of, edit-undone}
 use Rattle.change.proofs.Kept.{After, after-set, after-remove}
 use Rattle.journal.specs.Journal.{journalMost, Authored, by, Journal, editRecord, editLength}
-use Rattle.journal.specs.Lent.{journalIn}
+use Rattle.journal.specs.Lent.{usedOf, journalIn}
+use Rattle.journal.proofs.Records.{edit-length}
 use Rattle.edit.specs.Calls.{State, content, journalOf, lengthsFit, opened, fileFits, recordFits, applied, request}
 use Rattle.demands.specs.Files.{handed}
 use Rattle.demands.specs.Edits.{askedEntry, EditKeepsWellFormed, OthersReadAsBefore, SetIsReadBack, RemovedIsMissing, TurnedRound}
@@ -63,6 +66,13 @@ requested s f e =
       used = s .standing + editLength e;
       standing = s .standing + editLength e;
     }
+
+-- its record stands behind those that stood
+pub requested-used : (s : State) (f : List ℕ) (e : Authored Edit) → s .standing + editLength e ≤ length (s .journal)
+    → usedOf (journalOf (requested s f e)) ≡ take (s .standing) (s .journal) ++ recordBytes (editRecord e)
+requested-used s f e h =
+    let bytes : List ℕ = recordBytes (editRecord e) in
+    ap (λ (n : ℕ). take (s .standing + n) (over (s .journal) (s .standing) bytes)) (sym (edit-length e)) ∙ take-over (s .journal) (s .standing) bytes (omega (arith, edit-length e))
 
 -- the file was well formed, the edit is the request's, there was room for both, and what is left is what the request makes
 pub record Done (s t : State) (q : Authored Request) : Type 0 where

@@ -33,7 +33,7 @@ use Rattle.demands.specs.Files.{LookupMisses, ChoiceMisses, ChoiceTakesF
 
 pub checks : (file : List ℕ) → wellFormed file ≡ true → check file ≡ given tt
 unfolding CheckAccepts
-checks file w = accepted-given (check file) (check-accepts desktopEntry file ∙ w)
+checks file w = accepted-given (check file) (check-accepts desktopEntry file ∙ w) .1
 
 all-plain : (file : List ℕ) → wellFormed file ≡ true → any (noPlain (readRows file)) (readRows file) ≡ false
 unfolding wellFormedAs

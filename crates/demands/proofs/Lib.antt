@@ -14,3 +14,5 @@ pub mod CommandLaws
 pub mod TextLaws
 pub mod BadLines
 pub mod PassedOn
+pub mod ForgetLaws
+pub mod RoomLaws

@@ -2,7 +2,7 @@
 use mathlib.Core.Path.{_≡_, refl, sym, ap, _∙_}
 use Prim.Native.Nat.{ℕ, zero, suc, _+_, _-_}
 use Prim.Native.Char.{code}
-use mathlib.Core.Bool.{Bool, true, false, _&&_, _||_}
+use mathlib.Core.Bool.{Bool, true, false, _&&_, _||_, false≢true}
 use mathlib.Core.Option.{Option, none, some}
 use mathlib.Core.List.{List, [], _∷_}
 use lib.ListN.{length, take}
@@ -11,8 +11,8 @@ use Rattle.base.specs.Choice.{pick, maybe}
 use Rattle.base.specs.Lists.{ascii, any, all, first}
 use Rattle.fault.specs.declared.Fault.{Fault}
 use Rattle.fault.specs.declared.Fault.the-variants.{BadLine, BadArgument, Missing, UnfitText, NoRoom, NothingLeft, JournalFull, Damaged, BadExec, BadCode, Incomplete}
-use Rattle.fault.specs.Answer.{given, refused, unless}
-use Rattle.fault.proofs.Refusals.{IfRefused, if-bind, if-need, if-or, if-some, if-none, Not2, came-later, came-first}
+use Rattle.fault.specs.Answer.{given, refused, unless, then}
+use Rattle.fault.proofs.Refusals.{IfRefused, if-then, if-bind, if-need, if-or, if-some, if-none, of-refusal, Not2, came-later, came-first}
 use Rattle.text.specs.Escape.{readText}
 use Rattle.line.specs.Name.{byteAt}
 use Rattle.line.specs.Form.{groupForm, keyForm, plainForm, localeForm}
@@ -29,7 +29,8 @@ use Rattle.entry.specs.Choose.{choose}
 use Rattle.splice.specs.Edit.{Edit, spliced, turned, stands}
 use Rattle.change.specs.Change.{editOf}
 use Rattle.journal.specs.Journal.{by, editLength, readJournal, nextOf}
-use Rattle.edit.specs.Calls.{State, content, lengthsFit, fileFits, recordFits, opened, applied, request, replayed, undo, redo}
+use Rattle.journal.specs.Lent.{forget}
+use Rattle.edit.specs.Calls.{State, content, journalOf, lengthsFit, fileFits, recordFits, opened, applied, request, replayed, undo, redo}
 use Rattle.command.specs.Words.{Word, words, insideLength}
 use Rattle.command.specs.Codes.{codeIn, needsBackslash, standsIn}
 use Rattle.command.specs.Command.{takesNext, pieceOf, widthOf, isItem, pieceFault, piecesFault, inside, unfit, quotedFault, faultAs, formOf, wordFault, takesFiles, argumentOf, wordsFault, readCommand, hasPiece, isName, isIcon}
@@ -37,20 +38,21 @@ use Rattle.command.specs.declared.Form.{Form}
 use Rattle.command.specs.declared.Form.the-variants as form
 use Rattle.exec.specs.Run.{runs}
 use Rattle.exec.specs.Expand.{fitItem, fitLocation, askedItems, nameText, iconText, runArguments, groupArguments, expand}
-use Rattle.kveldrim.proofs.NoByte.{read-not2}
-use Rattle.demands.specs.Book.{Call, Do, Undo, Redo}
-use Rattle.demands.specs.Demand3.{stateCall}
-use Rattle.demands.specs.BadLine.{BadAt, BadLineTold, BadLineToldByCalls, CheckPassedOn}
+use Rattle.kveldrim.proofs.NoByte.{read-not2, forget-not2}
+use Rattle.demands.specs.Book.{Call, Do, Undo, Redo, Forget}
+use Rattle.demands.specs.Demand3.{withJournal, stateCall}
+use Rattle.demands.specs.BadLine.{BadAt, lendsFile, BadLineTold, BadLineToldByCalls, CheckPassedOn}
 use Rattle.demands.proofs.BookLaws.{request-refusals}
 use Rattle.demands.proofs.BadLines.{bad-line-told}
 
 -- ---- the check's refusal ends every call
 
-edit-refuses : (s : State) (f : Fault) (c : Call) → lengthsFit s ≡ true → check (content s) ≡ refused f → stateCall s c ≡ refused f
+edit-refuses : (s : State) (f : Fault) (c : Call) → lendsFile c ≡ true → lengthsFit s ≡ true → check (content s) ≡ refused f → stateCall s c ≡ refused f
 unfolding request undo redo opened
-edit-refuses s f (Do q) l e = rw (l, e)
-edit-refuses s f Undo l e = rw (l, e)
-edit-refuses s f Redo l e = rw (l, e)
+edit-refuses s f (Do q) c l e = rw (l, e)
+edit-refuses s f Undo c l e = rw (l, e)
+edit-refuses s f Redo c l e = rw (l, e)
+edit-refuses s f (Forget k) c l e = absurd (false≢true c)
 
 pub check-passed-on : CheckPassedOn
 unfolding CheckPassedOn complete lookup choose askedItems expand
@@ -60,7 +62,7 @@ check-passed-on file f e =
       lookup-refuses = λ group key. rw e;
       choose-refuses = λ group key locale. rw e;
       expand-refuses = λ locale location list run. rw e;
-      edits-refuse = λ s c l i. edit-refuses s f c l (ap check i ∙ e);
+      edits-refuse = λ s c h l i. edit-refuses s f c h l (ap check i ∙ e);
     }
 
 -- ---- what the calls ask after the check
@@ -102,6 +104,9 @@ edit-tells s (Do q) line byte e =
     (λ _. if-bind Not2 (editOf (content s) (q .what)) _ (request-refusals Not2 refl refl refl refl refl (content s) (q .what)) (λ d. if-need Not2 (fileFits (length (s .file)) (spliced d (content s))) NoRoom _ refl (λ _. if-need Not2 (recordFits (length (s .journal)) (s .standing) (by (q .author) d)) JournalFull _ refl (λ _. tt)))) e)
 edit-tells s Undo line byte e = opened-tells s line byte (came-first (opened s) _ line byte (λ j. if-some Not2 (nextOf (j .stand)) NothingLeft _ refl (λ d. replayed-not2 s (turned (d .what)) (s .standing - editLength d))) e)
 edit-tells s Redo line byte e = opened-tells s line byte (came-first (opened s) _ line byte (λ j. if-some Not2 (nextOf (j .wait)) NothingLeft _ refl (λ d. replayed-not2 s (d .what) (s .standing + editLength d))) e)
+edit-tells s (Forget k) line byte e =
+    let n : true ≡ false = of-refusal Not2 (then (withJournal s) (forget (journalOf s) k)) (BadLine line byte) (if-then Not2 (withJournal s) (forget (journalOf s) k) (forget-not2 (journalOf s) k)) e in
+    absurd (false≢true (sym n))
 
 -- ---- the expansion
 

@@ -11,11 +11,11 @@ use lib.Dec.{eqb, leb}
 use borrow.Author.Tests.{leb-true, leb-false, le-leb}
 use Rattle.base.specs.Lists.{all}
 use Rattle.base.specs.Over.{over}
-use Rattle.base.proofs.Over.{take-over, length-over}
+use Rattle.base.proofs.Over.{length-over}
 use Rattle.base.proofs.Tests.{no, by-test, and-both}
 use Rattle.fault.specs.declared.Fault.the-variants.{Damaged, NoRoom, NothingLeft, JournalFull}
-use Rattle.fault.specs.Answer.{Answer, given, refused, _>>=_, need, some-or, then}
-use Rattle.fault.proofs.Answers.{need-given, bind-given, some-is, some-given, given-is}
+use Rattle.fault.specs.Answer.{Answer, given, refused, _>>=_, need, some-or, then, atExit}
+use Rattle.fault.proofs.Answers.{need-given, bind-given, some-given, given-is}
 use Rattle.record.specs.Record.{recordBytes, bodiesOf, readList}
 use Rattle.rows.specs.Title.{desktopEntry}
 use Rattle.wellformed.specs.Check.{fileMost, check}
@@ -25,18 +25,18 @@ use Rattle.splice.specs.Edit.{Edit, spliced, turned, stands, bufferWith}
 use Rattle.splice.proofs.Splits.{splits-length, buffer-length}
 use Rattle.change.specs.Change.{Request, editOf}
 use Rattle.change.proofs.Accepted.{edit-splits}
-use Rattle.journal.specs.Journal.{Authored, by, personOf, kindOf, editRecord, editLength, Journal, inOrder, readJournal, nextOf}
-use Rattle.journal.specs.Lent.{Lent, lent, numbersFit, personIn, person}
-use Rattle.journal.specs.Lent as journal
-use Rattle.journal.proofs.Numbers.{Bounds, numbers-bounds, bounds-fit}
+use Rattle.journal.specs.Journal.{Authored, by, personOf, kindOf, editRecord, editLength, lengths, Journal, inOrder, nextOf}
+use Rattle.journal.specs.Lent.{Lent, lent, usedOf, numbersFit, personIn, person}
+use Rattle.journal.specs.Lent as alone
+use Rattle.journal.proofs.Opened.{opened-says, opened-by}
 use Rattle.journal.proofs.Joined.{journal-says, journal-parted, journal-more}
-use Rattle.journal.proofs.Records.{Small, edit-length, lengths, recorded, recorded-length, recorded-back, lengths-reverse}
-use Rattle.edit.specs.Calls.{State, content, journalOf, lengthsFit, fileFits, recordFits, opened, request, replayed, undo, redo, atExit}
-use Rattle.demands.specs.Book.{Call, Do, Undo, Redo, Book, bookFile, bookStanding, withLists, bookRequest, bookUndo, bookRedo, bookCall}
+use Rattle.journal.proofs.Records.{Small, edit-length, recorded, recorded-length, recorded-back, lengths-reverse}
+use Rattle.edit.specs.Calls.{State, content, journalOf, lengthsFit, fileFits, recordFits, opened, request, replayed, undo, redo}
+use Rattle.demands.specs.Book.{Call, Do, Undo, Redo, Forget, Book, bookFile, bookStanding, withLists, bookRequest, bookUndo, bookRedo, withoutOldest, bookForget, bookCall}
 use Rattle.demands.specs.Demand3.{stateCall, writesKind, leftBy, startState, startBook}
 use Rattle.demands.specs.Persons.{PersonsAsInTheBook, PersonTold, PersonsStay, RecordsOfOneKind}
 use Rattle.demands.proofs.FileLaws.{checks}
-use Rattle.demands.proofs.EditLaws.{requested, opened-well, done, fits-room, fits-record, leaves}
+use Rattle.demands.proofs.EditLaws.{requested, requested-used, opened-well, done, fits-room, fits-record, leaves}
 use Rattle.demands.proofs.Agreement.{Past, Next, Rep, small, opens-journal, agrees, start-rep}
 
 -- ---- as in the book
@@ -89,7 +89,7 @@ module _ {A B : Type 0} where
       rw (← h .0, p .0) (kinds-alike kind xs ys (h .1) (p .1))
 
 -- an opened journal tells its edits' persons
-person-opened : (s : Lent) (j : Journal) (n : ℕ) → journal.opened s ≡ given j → person s n ≡ personIn (inOrder j) n
+pub person-opened : (s : Lent) (j : Journal) (n : ℕ) → alone.opened s ≡ given j → person s n ≡ personIn (inOrder j) n
 unfolding person
 person-opened s j n h = rw h
 
@@ -113,13 +113,21 @@ all-order p (x ∷ xs) ys e f =
     let b = and-both (p x) (all p xs) e in
     all-order p xs (x ∷ ys) (b .1) (rw (b .0) f)
 
+all-take : {A : Type 0} (p : A → Bool) (n : ℕ) (xs : List A) → all p xs ≡ true → all p (take n xs) ≡ true
+unfolding all
+all-take p zero xs e = refl
+all-take p (suc n) [] e = refl
+all-take p (suc n) (x ∷ xs) e =
+    let b = and-both (p x) (all p xs) e in
+    rw (b .0) (all-take p n xs (b .1))
+
 -- the book's requests are of this kind
 record Kinds (kind : ℕ) (b : Book) : Type 0 where
   stand : all (ofKind kind) (b .standing) ≡ true
   wait : all (ofKind kind) (b .waiting) ≡ true
 
 kinds-call : (kind : ℕ) (b : Book) (c : Call) → writesKind kind c ≡ true → Kinds kind b → Kinds kind (atExit b (bookCall b c))
-unfolding bookRequest all
+unfolding bookRequest bookForget all
 kinds-call kind b (Do q) e k = by-edit (editOf (bookFile b) (q .what))
   where
     done : Book
@@ -144,6 +152,11 @@ kinds-call kind b Redo e k = go (b .waiting) (k .wait)
     go : (qs : List (Authored Request)) → all (ofKind kind) qs ≡ true → Kinds kind (atExit b (bookRedo b qs))
     go [] h = k
     go (q ∷ qs) h = let p = and-both (ofKind kind q) (all (ofKind kind) qs) h in record { stand = rw (p .0) (k .stand); wait = p .1 }
+kinds-call kind b (Forget n) e k = go (leb n (length (b .standing)))
+  where
+    go : (t : Bool) → Kinds kind (atExit b (need t NothingLeft >>= λ _. given (withoutOldest b n)))
+    go true = record { stand = all-take (ofKind kind) (length (b .standing) - n) (b .standing) (k .stand); wait = k .wait }
+    go false = k
 
 kinds-left : (kind : ℕ) (cs : List Call) (b : Book) → all (writesKind kind) cs ≡ true → Kinds kind b → Kinds kind (leftBy bookCall b cs)
 unfolding leftBy all
@@ -173,44 +186,26 @@ records-of-one-kind start rest journal kind calls h p w =
     let l : length (recorded es) ≤ 65536 = omega (arith, recorded-length es, lengths-reverse (r .es) (r .ws), r .used, r .most) in
     rw (r .bytes, le-leb (length (recorded es)) 65536 l, recorded-back es (small s b r), kind-records kind es (all-order (ofKind kind) (r .es) (r .ws) stand wait))
 
--- ---- any journal
-
--- what an opened journal says
-record Opened (s : Lent) (j : Journal) : Type 0 where
-  fits : numbersFit s ≡ true
-  reads : readJournal (take (s .used) (s .journal)) (s .standing) ≡ some j
-
-opened-says : (s : Lent) (j : Journal) → journal.opened s ≡ given j → Opened s j
-unfolding journal.opened
-opened-says s j h =
-    let a = need-given (numbersFit s) Damaged (λ _. journal.journalIn s) j h in
-    record { fits = a .0; reads = some-is (readJournal (take (s .used) (s .journal)) (s .standing)) Damaged j (a .1) }
-
--- a journal is opened by its numbers and its edits
-opened-by : (s : Lent) (j : Journal) → Bounds s → readJournal (take (s .used) (s .journal)) (s .standing) ≡ some j → journal.opened s ≡ given j
-unfolding journal.opened
-opened-by s j b h = rw (bounds-fit s b, h)
-
 -- ---- a set or remove
 
 -- what is lent is opened by its file and its journal
 record Both (s : State) (j : Journal) : Type 0 where
   size-fits : s .size ≤ length (s .file)
   well : wellFormed (content s) ≡ true
-  journal-opened : journal.opened (journalOf s) ≡ given j
+  journal-opened : alone.opened (journalOf s) ≡ given j
 
 opened-both : (s : State) (j : Journal) → opened s ≡ given j → Both s j
-unfolding opened lengthsFit journal.opened
+unfolding opened lengthsFit alone.opened
 opened-both s j h =
-    let a = need-given (leb (s .size) (length (s .file)) && numbersFit (journalOf s)) Damaged (λ _. check (content s) >>= λ _. journal.journalIn (journalOf s)) j h in
+    let a = need-given (leb (s .size) (length (s .file)) && numbersFit (journalOf s)) Damaged (λ _. check (content s) >>= λ _. alone.journalIn (journalOf s)) j h in
     let l = and-both (leb (s .size) (length (s .file))) (numbersFit (journalOf s)) (a .0) in
-    let b = bind-given (check (content s)) (λ _. journal.journalIn (journalOf s)) j (a .1) in
+    let b = bind-given (check (content s)) (λ _. alone.journalIn (journalOf s)) j (a .1) in
     record { size-fits = leb-true _ _ (l .0); well = opened-well s j h; journal-opened = rw (l .1) (b .2) }
 
 both-opened : (s : State) (j : Journal) → Both s j → opened s ≡ given j
-unfolding opened lengthsFit journal.opened
+unfolding opened lengthsFit alone.opened
 both-opened s j w =
-    let a = need-given (numbersFit (journalOf s)) Damaged (λ _. journal.journalIn (journalOf s)) j (w .journal-opened) in
+    let a = need-given (numbersFit (journalOf s)) Damaged (λ _. alone.journalIn (journalOf s)) j (w .journal-opened) in
     rw (le-leb (s .size) (length (s .file)) (w .size-fits), a .0, checks (content s) (w .well)) (a .1)
 
 -- an accepted set or remove stands, by its author, behind those that stood, and none waits
@@ -222,14 +217,14 @@ request-stands s t q j p h e =
     let m : Authored Edit = by (q .author) (d .edit) in
     let w = opened-both s j h in
     let o = opened-says (journalOf s) j (w .journal-opened) in
-    let n = numbers-bounds (journalOf s) (o .fits) in
+    let n = o .bounds in
     let r = fits-record (length (s .journal)) (s .standing) m (d .record-fits) in
     let c = splits-length (d .edit) f (edit-splits f (q .what) (d .edit) (d .edits)) in
     let g = well-lines desktopEntry f (d .well) .0 in
     let bytes : List ℕ = recordBytes (editRecord m) in
     let l : length bytes ≡ editLength m = edit-length m in
     let x : take (s .standing + editLength m) (over (s .journal) (s .standing) bytes) ≡ take (s .standing) (take (s .used) (s .journal)) ++ bytes =
-    rw (← l, take-over (s .journal) (s .standing) bytes (omega arith), take-take (s .standing) (s .used) (s .journal) (n .standing-fits)) in
+    requested-used s f m (r .0) ∙ ap (λ (x : List ℕ). x ++ bytes) (sym (take-take (s .standing) (s .used) (s .journal) (n .standing-fits))) in
     let small : Small m = record { person-small = p; place-small = omega (arith, leb-true (length f) fileMost g); length-small = omega arith } in
     let y = journal-more (take (s .used) (s .journal)) (s .standing) j m (o .reads) small in
     let b : length (over (s .journal) (s .standing) bytes) ≡ length (s .journal) = length-over (s .journal) (s .standing) bytes (omega arith) in
@@ -241,12 +236,12 @@ request-stands s t q j p h e =
           ∙ both-opened v (record { stand = m ∷ j .stand; wait = [] }) (record {
             size-fits = omega arith;
             well = ap (λ (u : State). wellFormed (content u)) (d .is) ∙ leaves s t q e .well;
-            journal-opened = opened-by (journalOf v) (record { stand = m ∷ j .stand; wait = [] }) (record { used-fits = omega arith; used-bound = omega arith; standing-fits = omega arith }) (rw x y);
+            journal-opened = opened-by (journalOf v) (record { stand = m ∷ j .stand; wait = [] }) (record { bounds = record { used-fits = omega arith; used-bound = omega arith; standing-fits = omega arith }; reads = rw x y });
           }),
     )
 
 -- in order: what follows those that stand, and one of those
-order-after : (es ws : List (Authored Edit)) (n : ℕ) → getElem? (reverseAux es ws) (length es + n) ≡ getElem? ws n
+pub order-after : (es ws : List (Authored Edit)) (n : ℕ) → getElem? (reverseAux es ws) (length es + n) ≡ getElem? ws n
 order-after [] ws n = let z : 0 + n ≡ n = omega arith in rw z
 order-after (e ∷ es) ws n = let z : suc (length es) + n ≡ length es + suc n = omega arith in rw z (order-after es (e ∷ ws) (suc n))
 
@@ -280,16 +275,22 @@ person-told s t q j p h e =
 -- ---- undo and redo
 
 -- the same journal, of which others stand
-persons-moved : (s : Lent) (j : Journal) (es ws : List (Authored Edit)) (n : ℕ) → journal.opened s ≡ given j → inOrder j ≡ reverseAux es ws
+pub others-stand : (s : Lent) (j : Journal) (es ws : List (Authored Edit)) → alone.opened s ≡ given j → inOrder j ≡ reverseAux es ws
+    → alone.opened (lent (s .journal) (s .used) (lengths es)) ≡ given (record { stand = es; wait = ws })
+others-stand s j es ws h i =
+    let o = opened-says s j h in
+    let b = o .bounds in
+    let p = journal-parted (usedOf s) (s .standing) j es ws (o .reads) i in
+    let l = length-take-le (s .used) (s .journal) (b .used-fits) in
+    opened-by (lent (s .journal) (s .used) (lengths es)) (record { stand = es; wait = ws }) (record {
+      bounds = record { used-fits = b .used-fits; used-bound = b .used-bound; standing-fits = omega (arith, l, p .1) };
+      reads = p .0;
+    })
+
+persons-moved : (s : Lent) (j : Journal) (es ws : List (Authored Edit)) (n : ℕ) → alone.opened s ≡ given j → inOrder j ≡ reverseAux es ws
     → person (lent (s .journal) (s .used) (lengths es)) n ≡ person s n
 persons-moved s j es ws n h i =
-    let o = opened-says s j h in
-    let b = numbers-bounds s (o .fits) in
-    let p = journal-parted (take (s .used) (s .journal)) (s .standing) j es ws (o .reads) i in
-    let l = length-take-le (s .used) (s .journal) (b .used-fits) in
-    let k : Journal = record { stand = es; wait = ws } in
-    let m : Lent = lent (s .journal) (s .used) (lengths es) in
-    person-opened m k n (opened-by m k (record { used-fits = b .used-fits; used-bound = b .used-bound; standing-fits = omega (arith, l, p .1) }) (p .0))
+    person-opened (lent (s .journal) (s .used) (lengths es)) (record { stand = es; wait = ws }) n (others-stand s j es ws h i)
     ∙ ap (λ (es : List (Authored Edit)). personIn es n) (sym i)
     ∙ sym (person-opened s j n h)
 
@@ -322,7 +323,7 @@ module _ (s t : State) (n : ℕ) (which : Journal → List (Authored Edit)) (tur
       let e : Authored Edit = b .0 in
       let f = first-is (which j) e (b .1) in
       let o = opened-both s j (a .1) .journal-opened in
-      let w = journal-says (take (s .used) (s .journal)) (s .standing) j (opened-says (journalOf s) j o .reads) in
+      let w = journal-says (usedOf (journalOf s)) (s .standing) j (opened-says (journalOf s) j o .reads) in
       rw (replayed-journal s t (turn (e .what)) (number e) (b .2), numbered j e (f .0) (f .1) (w .standing))
       (persons-moved (journalOf s) j (stand j e (f .0)) (wait j e (f .0)) n o (ordered j e (f .0) (f .1)))
 

@@ -1,7 +1,7 @@
 -- Refusal 2 names the bad line and the byte in it, in every call that gives it (02, A6). Assumes nothing.
 use Prim.Native.Nat.{ℕ, _+_, _-_, _≤_, _<_}
 use mathlib.Core.Path.{_≡_}
-use mathlib.Core.Bool.{true, false}
+use mathlib.Core.Bool.{Bool, true, false}
 use mathlib.Core.List.{List, [], _++_}
 use lib.ListN.{length, take, getD}
 use Rattle.base.specs.Lists.{any}
@@ -17,7 +17,7 @@ use Rattle.entry.specs.Lookup.{lookup}
 use Rattle.entry.specs.Choose.{choose}
 use Rattle.exec.specs.Expand.{expand}
 use Rattle.edit.specs.Calls.{State, content, lengthsFit}
-use Rattle.demands.specs.Book.{Call}
+use Rattle.demands.specs.Book.{Call, Do, Undo, Redo, Forget}
 use Rattle.demands.specs.Demand3.{stateCall}
 
 -- the line of a number, counted from 1
@@ -59,13 +59,20 @@ pub record CallsTell (file : List ℕ) : Type 0 where
 unfoldable pub BadLineToldByCalls : Type 0
 BadLineToldByCalls = (file : List ℕ) → CallsTell file
 
+-- the calls to which the file is lent: all but forgetting
+abbrev pub lendsFile : Call → Bool
+lendsFile (Do q) = true
+lendsFile Undo = true
+lendsFile Redo = true
+lendsFile (Forget k) = false
+
 -- a refusal that every other call on a file gives; one that edits gives it where the lengths fit
 pub record PassedOn (file : List ℕ) (f : Fault) : Type 0 where
   pub complete-refuses : complete file ≡ refused f
   pub lookup-refuses : (group key : List ℕ) → lookup file group key ≡ refused f
   pub choose-refuses : (group key locale : List ℕ) → choose file group key locale ≡ refused f
   pub expand-refuses : (locale location list : List ℕ) (run : ℕ) → expand file locale location list run ≡ refused f
-  pub edits-refuse : (s : State) (c : Call) → lengthsFit s ≡ true → content s ≡ file → stateCall s c ≡ refused f
+  pub edits-refuse : (s : State) (c : Call) → lendsFile c ≡ true → lengthsFit s ≡ true → content s ≡ file → stateCall s c ≡ refused f
 
 -- the check's refusal is passed on by all of them
 unfoldable pub CheckPassedOn : Type 0

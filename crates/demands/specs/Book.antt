@@ -1,22 +1,26 @@
 -- The book of demand 3: fed the starting file, both buffers' sizes and the calls, it keeps two lists of requests (01, "Edits and the journal";
--- 02, A9). Assumes nothing.
+-- 02, A9 and A10). Assumes nothing.
 use Prim.Native.Nat.{ℕ, _+_}
 use mathlib.Core.Path.{_≡_}
 use mathlib.Core.List.{List, [], _∷_, reverseAux}
+use lib.ListN.{length}
+use lib.Dec.{leb}
 use Rattle.fault.specs.declared.Fault.{Fault}
 use Rattle.fault.specs.declared.Fault.the-variants.{NoRoom, NothingLeft, JournalFull}
 use Rattle.fault.specs.Table.{placeOf, byteOf}
-use Rattle.fault.specs.Answer.{Answer, given, refused, _>>=_, need, then}
+use Rattle.fault.specs.Answer.{Answer, given, refused, _>>=_, need, then, atExit}
 use Rattle.splice.specs.Edit.{spliced}
 use Rattle.change.specs.Change.{Request, editOf}
-use Rattle.journal.specs.Journal.{Authored, by, editLength}
-use Rattle.edit.specs.Calls.{fileFits, recordFits, atExit}
+use Rattle.journal.specs.Journal.{Authored, by, editLength, oldest, newer}
+use Rattle.edit.specs.Calls.{fileFits, recordFits}
 
--- the calls: a set or remove with its author, an undo, a redo; a set or remove without a person is 01's call, whose record is of kind 1
+-- The calls: a set or remove with its author, an undo, a redo, and to forget so many of the oldest. A set or remove without a person is 01's
+-- call, whose record is of kind 1.
 pub data Call : Type 0 where
   Do : Authored Request → Call
   Undo : Call
   Redo : Call
+  Forget : ℕ → Call
 
 -- the book: the starting file, both buffers' sizes, and two lists of requests: standing, the last first, and waiting, the first first
 pub record Book : Type 0 where
@@ -71,11 +75,29 @@ abbrev pub bookRedo : Book → List (Authored Request) → Answer Book
 bookRedo b [] = refused NothingLeft
 bookRedo b (q ∷ qs) = given (withLists b (q ∷ b .standing) qs)
 
+-- the book without its oldest requests: they leave the standing list, and the starting bytes are those after them
+abbrev pub withoutOldest : Book → ℕ → Book
+withoutOldest b k =
+    record {
+      start = fileAfter (b .start) (oldest k (b .standing));
+      fileRoom = b .fileRoom;
+      journalRoom = b .journalRoom;
+      standing = newer k (b .standing);
+      waiting = b .waiting;
+    }
+
+-- forget: 12 if fewer stand; else the oldest are gone
+unfoldable pub bookForget : Book → ℕ → Answer Book
+bookForget b k = do
+  _ ← need (leb k (length (b .standing))) NothingLeft
+  given (withoutOldest b k)
+
 -- a call to the book
 abbrev pub bookCall : Book → Call → Answer Book
 bookCall b (Do q) = bookRequest b q
 bookCall b Undo = bookUndo b (b .standing)
 bookCall b Redo = bookRedo b (b .waiting)
+bookCall b (Forget k) = bookForget b k
 
 -- a refusal has place 0 and byte 0
 unfoldable pub BookRefusesAtZero : Type 0

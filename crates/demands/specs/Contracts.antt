@@ -1,5 +1,6 @@
--- Demand 3 of calls that met their contracts: those of the functions of `edit`, and those of the functions that a C program calls. They may
--- start from what 01's calls left (02, A9). Assumes nothing.
+-- Demand 3 of calls that met their contracts: those of the functions of `edit` and of `journal::forget`, and those of the functions that a C
+-- program calls. They may start from what 01's calls and forgetting left (02, A9 and
+-- A10). Assumes nothing.
 use mathlib.Core.Path.{_≡_}
 use Prim.Native.Nat.{ℕ, zero, suc}
 use mathlib.Core.Bool.{true}
@@ -7,13 +8,17 @@ use mathlib.Core.List.{List, [], _∷_, _++_}
 use lib.ListN.{length}
 use Rattle.base.specs.Lists.{all}
 use Rattle.wellformed.specs.WellFormed.{wellFormed}
-use Rattle.edit.specs.Calls.{State}
+use Rattle.fault.specs.Answer.{atExit}
+use Rattle.journal.specs.Lent as alone
+use Rattle.journal.specs.Lent.{Lent, forget, leftIn, Forgets}
+use Rattle.journal.specs.declared.Forgot.{Forgot}
+use Rattle.edit.specs.Calls.{State, journalOf}
 use Rattle.edit.specs.Step.{lent, Made}
 use Rattle.edit.specs.declared.Edited.{Edited}
 use Rattle.edit.specs.declared.Edited.the-variants as edited
-use Rattle.kveldrim.specs.Abi.{Called}
-use Rattle.demands.specs.Book.{Call, Book, bookCall}
-use Rattle.demands.specs.Demand3.{stateCall, personFits, writesKind, Told, Accepted, Refused, toldOf, leftBy, startState, startBook, AsInTheBook}
+use Rattle.kveldrim.specs.Abi.{Called, CalledOnJournal}
+use Rattle.demands.specs.Book.{Call, Forget, Book, bookCall}
+use Rattle.demands.specs.Demand3.{withJournal, stateCall, personFits, writesKind, Told, Accepted, Refused, toldOf, told, leftBy, startState, startBook, AsInTheBook}
 
 -- Calls in turn on the same buffers: what is lent at first, the calls, what each told, and what is lent at last. `step s c x t` says that the
 -- call c, lent s, told x and left t.
@@ -21,7 +26,8 @@ pub data Chain (step : State → Call → Told → State → Type 0) : State →
   no-call : {s : State} → Chain step s [] [] s
   one-call : {s t u : State} {c : Call} {cs : List Call} {x : Told} {xs : List Told} → step s c x t → Chain step t cs xs u → Chain step s (c ∷ cs) (x ∷ xs) u
 
--- demand 3 of every chain of such calls, from what 01's calls left from any well-formed file and an empty journal; these may be none
+-- demand 3 of every chain of such calls, from what 01's calls and forgetting left from any well-formed file and an empty journal; these may
+-- be none
 abbrev pub Demand3Of : (State → Call → Told → State → Type 0) → Type 0
 Demand3Of step = (start rest journal : List ℕ) (olds calls : List Call) (tolds : List Told) (s : State) → wellFormed start ≡ true
     → all (writesKind 1) olds ≡ true → all personFits calls ≡ true
@@ -39,9 +45,14 @@ abbrev pub after : State → Edited → List ℕ → List ℕ → State
 after s (edited.Done size used standing) file journal = lent file size journal used standing
 after s (edited.Refused f) file journal = lent file (s .size) journal (s .used) (s .standing)
 
--- a call that answered r and left these buffers, as the contracts of set, remove, undo and redo promise
+-- the same of forgetting, to which the journal alone is lent
+abbrev pub afterForgot : State → Forgot → List ℕ → State
+afterForgot s r journal = withJournal s (atExit (alone.lent journal (s .used) (s .standing)) (leftIn journal r))
+
+-- a call that answered r and left these buffers, as the contracts of set, remove, undo and redo promise, and that of forget
 pub data ByContract : State → Call → Told → State → Type 0 where
   made : {s : State} {c : Call} {r : Edited} {file journal : List ℕ} → Made s (stateCall s c) r file journal → ByContract s c (toldBy r) (after s r file journal)
+  forgot : {s : State} {k : ℕ} {r : Forgot} {journal : List ℕ} → Forgets (journalOf s) k r journal → ByContract s (Forget k) (told (leftIn journal r)) (afterForgot s r journal)
 
 -- what a C program is told: 0 is accepted
 abbrev pub toldIn : ℕ → ℕ → ℕ → Told
@@ -52,11 +63,13 @@ toldIn (suc code) place byte = Refused (suc code) place byte
 pub data ByExport : State → Call → Told → State → Type 0 where
   called : {s : State} {c : Call} {code place byte size used standing : ℕ} {file journal : List ℕ}
       → Called s (stateCall s c) code place byte size used standing file journal → ByExport s c (toldIn code place byte) (lent file size journal used standing)
+  forgotten : {s : State} {k code place : ℕ} {j : Lent}
+      → CalledOnJournal (journalOf s) (forget (journalOf s) k) code place j → ByExport s (Forget k) (toldIn code place 0) (withJournal s j)
 
--- demand 3 of calls of set, remove, undo and redo
+-- demand 3 of calls of set, remove, undo, redo and forget
 unfoldable pub Demand3OfContracts : Type 0
 Demand3OfContracts = Demand3Of ByContract
 
--- demand 3 of calls of kveldrim_set, kveldrim_remove, kveldrim_undo and kveldrim_redo
+-- demand 3 of calls of kveldrim_set, kveldrim_remove, kveldrim_undo, kveldrim_redo and kveldrim_forget
 unfoldable pub Demand3OfExports : Type 0
 Demand3OfExports = Demand3Of ByExport

@@ -10,3 +10,4 @@ pub mod Examples
 pub mod Commands
 pub mod Texts
 pub mod BadLine
+pub mod Forgetting

@@ -3,17 +3,17 @@ use mathlib.Core.Path.{_≡_}
 use Prim.Native.Nat.{ℕ, suc, _<_}
 use mathlib.Core.Bool.{true}
 use mathlib.Core.List.{List, _++_}
-use lib.ListN.{length, take}
+use lib.ListN.{length}
 use Rattle.base.specs.Choice.{there}
 use Rattle.base.specs.Lists.{all}
 use Rattle.fault.specs.declared.Fault.the-variants.{NothingLeft}
-use Rattle.fault.specs.Answer.{given, refused}
+use Rattle.fault.specs.Answer.{given, refused, atExit}
 use Rattle.record.specs.Record.{readList}
 use Rattle.wellformed.specs.WellFormed.{wellFormed}
 use Rattle.change.specs.Change.{Request}
 use Rattle.journal.specs.Journal.{journalMost, Authored, personOf, Journal}
-use Rattle.journal.specs.Lent.{personIn, person}
-use Rattle.edit.specs.Calls.{State, journalOf, opened, request, undo, redo, atExit}
+use Rattle.journal.specs.Lent.{usedOf, personIn, person}
+use Rattle.edit.specs.Calls.{State, journalOf, opened, request, undo, redo}
 use Rattle.demands.specs.Book.{Call, Do, Book, inOrder, bookCall}
 use Rattle.demands.specs.Demand3.{stateCall, personFits, writesKind, leftBy, startState, startBook}
 
@@ -43,4 +43,4 @@ unfoldable pub RecordsOfOneKind : Type 0
 RecordsOfOneKind = (start rest journal : List ℕ) (kind : ℕ) (calls : List Call) → wellFormed start ≡ true → all personFits calls ≡ true
     → all (writesKind kind) calls ≡ true →
     let s : State = leftBy stateCall (startState start rest journal) calls in
-    there (readList kind journalMost (take (s .used) (s .journal))) ≡ true
+    there (readList kind journalMost (usedOf (journalOf s))) ≡ true

@@ -8,14 +8,14 @@ use lib.ListN.{length, take}
 use Rattle.base.proofs.Tests.{no}
 use Rattle.fault.specs.declared.Fault.{Fault}
 use Rattle.fault.specs.declared.Fault.the-variants.{Damaged, NoRoom, NothingLeft}
-use Rattle.fault.specs.Answer.{Answer, given, refused, _>>=_, need, some-or, then}
+use Rattle.fault.specs.Answer.{Answer, given, refused, _>>=_, need, some-or, then, atExit}
 use Rattle.wellformed.specs.Check.{check}
 use Rattle.wellformed.specs.WellFormed.{wellFormed}
 use Rattle.splice.specs.Edit.{Edit, spliced, turned, stands, bufferWith}
 use Rattle.journal.specs.Journal.{Authored, Journal, editLength, nextOf}
 use Rattle.journal.specs.Lent.{journalIn}
 use Rattle.journal.specs.Walk.{Placed, endingAt, startingAt, latest, waiting}
-use Rattle.edit.specs.Calls.{State, content, journalOf, lengthsFit, opened, fileFits, replayed, undo, redo, atExit}
+use Rattle.edit.specs.Calls.{State, content, journalOf, lengthsFit, opened, fileFits, replayed, undo, redo}
 use Rattle.edit.specs.Step.{answered, told, readied, replayedIn, numbers, became, Made}
 use Rattle.edit.specs.declared.Edited.{Edited}
 use Rattle.edit.specs.declared.Edited.the-variants as edited

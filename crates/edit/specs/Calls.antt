@@ -6,7 +6,7 @@ use lib.ListN.{length, take}
 use lib.Dec.{leb}
 use Rattle.base.specs.Over.{over}
 use Rattle.fault.specs.declared.Fault.the-variants.{Damaged, NoRoom, NothingLeft, JournalFull}
-use Rattle.fault.specs.Answer.{Answer, given, refused, _>>=_, need, some-or}
+use Rattle.fault.specs.Answer.{Answer, given, _>>=_, need, some-or}
 use Rattle.record.specs.Record.{recordBytes}
 use Rattle.wellformed.specs.Check.{fileMost, check}
 use Rattle.wellformed.specs.WellFormed.{wellFormed}
@@ -100,8 +100,3 @@ redo s = do
   j ← opened s
   e ← some-or (nextOf (j .wait)) NothingLeft
   replayed s (e .what) (s .standing + editLength e)
-
--- what is there as a call returns: a refusal changes nothing
-abbrev pub atExit : {A : Type 0} → A → Answer A → A
-atExit a (given b) = b
-atExit a (refused f) = a

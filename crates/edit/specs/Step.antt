@@ -4,12 +4,12 @@ use Prim.Native.Nat.{ℕ}
 use mathlib.Core.List.{List}
 use lib.ListN.{length}
 use Rattle.fault.specs.declared.Fault.the-variants.{Damaged, NoRoom}
-use Rattle.fault.specs.Answer.{Answer, given, refused, _>>=_, need, then}
+use Rattle.fault.specs.Answer.{Answer, given, refused, _>>=_, need, then, atExit}
 use Rattle.wellformed.specs.Check.{check}
 use Rattle.wellformed.specs.WellFormed.{wellFormed}
 use Rattle.splice.specs.Edit.{Edit, spliced, stands, bufferWith}
 use Rattle.journal.specs.Journal.{Author, by}
-use Rattle.edit.specs.Calls.{State, content, lengthsFit, fileFits, applied, atExit}
+use Rattle.edit.specs.Calls.{State, content, lengthsFit, fileFits, applied}
 use Rattle.edit.specs.declared.Edited.{Edited}
 use Rattle.edit.specs.declared.Edited.the-variants as edited
 use Rattle.edit.specs.declared.Replayed.{Replayed}

@@ -1,8 +1,10 @@
-// Examples of edits: the record's room, and one byte less; two people's sets in either order; who made an edit. Both buffers hold dots first.
+// Examples of edits: the record's room, and one byte less; two people's sets in either order; who made an edit; edits forgotten. Buffers hold
+// dots first.
 use crate::report::quote;
 use crate::report::say;
 use crate::report::say_number;
 use crate::report::tell_edited;
+use crate::report::tell_forgot;
 use crate::report::tell_named;
 use edit::Edited;
 ghost use Prim.Native.Nat.{_≤_};
@@ -144,8 +146,32 @@ fn ask_persons(file: &mut [u8], journal: &mut [u8]) {
     ask_person(journal, 56, 54, 0);
 }
 
+// Some edits forgotten in a copy of a journal.
+fn forget_in(journal: &[u8], standing: usize, k: usize)
+    requires { ⌜ length (now journal) ≤ 55 ⌝ }
+{
+    let mut copy = [b'.'; 55];
+    splice::write(&mut copy, 0, journal);
+    say(b"forget ");
+    say_number(k);
+    say(b" of the edits in 54 bytes, of which stand ");
+    say_number(standing);
+    let f = journal::forget(&mut copy, 54, standing, k);
+    tell_forgot(f, &copy);
+}
+
+fn forget_some(journal: &[u8])
+    requires { ⌜ length (now journal) ≤ 55 ⌝ }
+{
+    forget_in(journal, 54, 0);
+    forget_in(journal, 26, 1);
+    forget_in(journal, 26, 2);
+    forget_in(journal, 27, 1);
+    forget_in(journal, 54, 2);
+}
+
 // A journal that 01's set of Name in T left, and an edit by a person behind it.
-pub fn persons() {
+pub fn journals() {
     let mut file = [b'.'; 72];
     let mut journal = [b'.'; 55];
     splice::write(
@@ -159,4 +185,5 @@ pub fn persons() {
         b"\x1a\0\0\0\x01\0&\0\0\0\x05\0\0\0\x03\0\0\0LesenLes",
     );
     ask_persons(&mut file, &mut journal);
+    forget_some(&journal);
 }

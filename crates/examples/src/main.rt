@@ -23,7 +23,7 @@ fn main() {
     texts::lists_read();
     edits::sets(t);
     edits::orders(t);
-    edits::persons();
+    edits::journals();
     commands::expansions(t);
     commands::commands_read();
 }

@@ -2,6 +2,7 @@
 use edit::Edited;
 use entry::Ends;
 use fault::Fault;
+use journal::Forgot;
 use journal::Named;
 use libc::STDOUT_FILENO;
 use text::Written;
@@ -125,10 +126,8 @@ pub fn tell_records(w: Written, out: &[u8]) {
     say(b"\n");
 }
 
-fn say_numbers(size: usize, used: usize, standing: usize) {
-    say(b": ");
-    say_number(size);
-    say(b" bytes, used ");
+fn say_numbers(used: usize, standing: usize) {
+    say(b"used ");
     say_number(used);
     say(b", standing ");
     say_number(standing);
@@ -141,7 +140,12 @@ pub fn tell_edited(e: Edited, file: &[u8], journal: &[u8]) {
             size,
             used,
             standing,
-        } => say_numbers(size, used, standing),
+        } => {
+            say(b": ");
+            say_number(size);
+            say(b" bytes, ");
+            say_numbers(used, standing);
+        }
         Edited::Refused(f) => say_refused(f),
     }
     say(b", ");
@@ -160,5 +164,19 @@ pub fn tell_named(n: Named) {
         }
         Named::Refused(f) => say_refused(f),
     }
+    say(b"\n");
+}
+
+// The answer of the call that forgets, and the journal's buffer.
+pub fn tell_forgot(f: Forgot, journal: &[u8]) {
+    match f {
+        Forgot::Done { used, standing } => {
+            say(b": ");
+            say_numbers(used, standing);
+        }
+        Forgot::Refused(fault) => say_refused(fault),
+    }
+    say(b",");
+    spaced_bytes(journal);
     say(b"\n");
 }

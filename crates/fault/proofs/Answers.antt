@@ -31,6 +31,6 @@ pub given-is : {A : Type 0} (a b : A) → given a ≡ given b → a ≡ b
 given-is a b e = cc
 
 -- what is accepted was given
-pub accepted-given : (a : Answer (Unit {0})) → accepted a ≡ true → a ≡ given tt
-accepted-given (given tt) e = refl
+pub accepted-given : {A : Type 0} (a : Answer A) → accepted a ≡ true → (x : A) × (a ≡ given x)
+accepted-given (given x) e = (x, refl)
 accepted-given (refused f) e = absurd (false≢true e)

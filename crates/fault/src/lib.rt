@@ -25,7 +25,7 @@ pub enum Fault {
     UnfitText,
     // An output that is too small, or an edited file over its buffer or 32,768 bytes.
     NoRoom,
-    // Nothing to undo or redo, or no such record.
+    // Nothing to undo or redo, no such record, or fewer edits than are to be forgotten.
     NothingLeft,
     // Standing and the new record over the journal's buffer or 65,536 bytes.
     JournalFull,

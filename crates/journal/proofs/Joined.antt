@@ -1,4 +1,4 @@
--- A sound journal taken apart and put together, whatever its bytes: what stands, what waits, and one edit more. Assumes nothing.
+-- A sound journal taken apart and put together, whatever its bytes: what stands, what waits, without the oldest, and one edit more. Assumes nothing.
 use mathlib.Core.Path.{_≡_, refl, sym, ap, _∙_}
 use Prim.Native.Nat.{ℕ, _+_, _-_, _≤_}
 use native.Mathlib.Omega.{arith}
@@ -16,9 +16,9 @@ use Rattle.record.proofs.Sizes.{listLength}
 use Rattle.record.proofs.Cut.{cut-none}
 use Rattle.record.proofs.Parted.{cut-join, cut-parted, cut-length}
 use Rattle.splice.specs.Edit.{Edit}
-use Rattle.journal.specs.Journal.{Authored, editRecord, editLength, readEdit, readEdits, Journal, inOrder, partedAt, readJournal}
+use Rattle.journal.specs.Journal.{Authored, editRecord, editLength, lengths, readEdit, readEdits, Journal, inOrder, partedAt, readJournal}
 use Rattle.journal.specs.Walk.{edits}
-use Rattle.journal.proofs.Records.{Small, edit-fits, edit-back, parted, lengths-reverse, lengths}
+use Rattle.journal.proofs.Records.{Small, edit-fits, edit-back, parted, lengths-reverse, lengths-parted, order-parted}
 use Rattle.journal.proofs.Edits.{read-length, journal-by}
 
 -- ---- records that are read
@@ -161,6 +161,18 @@ pub journal-parted : (s : List ℕ) (n : ℕ) (j : Journal) (es ws : List (Autho
 journal-parted s n j es ws h i =
     let e : edits s ≡ some (reverseAux es ws) = journal-says s n j h .in-order ∙ ap some i in
     (journal-of s es ws e, omega (arith, edits-length s (reverseAux es ws) e, lengths-reverse es ws))
+
+-- without its oldest edits: the others are as they were
+pub journal-rest : (s : List ℕ) (n : ℕ) (j : Journal) (m : ℕ) → readJournal s n ≡ some j
+    → let gone : ℕ = lengths (drop m (j .stand)) in readJournal (drop gone s) (n - gone) ≡ some (record { stand = take m (j .stand); wait = j .wait })
+journal-rest s n j m h =
+    let w = journal-says s n j h in
+    let old : List (Authored Edit) = drop m (j .stand) in
+    let others : List (Authored Edit) = reverseAux (take m (j .stand)) (j .wait) in
+    let e : edits s ≡ some (reverse old ++ others) = w .in-order ∙ ap some (order-parted m (j .stand) (j .wait) ∙ reverseAux-eq old others) in
+    let l : lengths (reverse old) ≡ lengths old = lengths-reverse old [] ∙ omega arith in
+    let k : n - lengths old ≡ lengths (take m (j .stand)) = omega (arith, w .standing, lengths-parted m (j .stand)) in
+    rw (k, ← l) (journal-of (drop (lengths (reverse old)) s) (take m (j .stand)) (j .wait) (edits-parted s (reverse old) others e .1))
 
 -- one edit more behind those that stand, and none waits
 pub journal-more : (s : List ℕ) (n : ℕ) (j : Journal) (e : Authored Edit) → readJournal s n ≡ some j → Small e

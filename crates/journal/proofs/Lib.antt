@@ -6,4 +6,7 @@ pub mod Answers
 pub mod Front
 pub mod Numbers
 pub mod Joined
+pub mod Opened
 pub mod Persons
+pub mod Forgotten
+pub mod Ends

@@ -1,7 +1,7 @@
 -- The person in the n-th record of a journal. Assumes nothing.
-use mathlib.Core.Path.{_≡_, refl, sym, ap, _∙_}
+use mathlib.Core.Path.{_≡_, sym, ap, _∙_}
 use mathlib.Core.Bool.{true, false}
-use mathlib.Core.Option.{Option, none, some}
+use mathlib.Core.Option.{none, some}
 use mathlib.Core.List.{List, [], _∷_}
 use Prim.Native.Nat.{ℕ, zero, suc, _+_, _-_, _≤_}
 use native.Mathlib.Omega.{arith}
@@ -13,7 +13,8 @@ use Rattle.base.specs.Choice.{there}
 use Rattle.base.specs.Lists.{part}
 use Rattle.base.proofs.Tests.{no, by-test}
 use Rattle.fault.specs.declared.Fault.the-variants.{Damaged, NothingLeft}
-use Rattle.fault.specs.Answer.{Answer, given, refused, _>>=_, some-or}
+use Rattle.fault.specs.Answer.{Answer, given, refused, accepted}
+use Rattle.fault.proofs.Answers.{accepted-given}
 use Rattle.record.specs.declared.Bounds.the-variants as bounds
 use Rattle.record.specs.Number.{numberOf}
 use Rattle.record.specs.Record.{Rec, recordLength, cut}
@@ -21,17 +22,13 @@ use Rattle.record.specs.Walk.{boundsFrom, nthOf}
 use Rattle.record.proofs.Place.{Stands}
 use Rattle.record.proofs.Cut.{cut-some, cut-some-at}
 use Rattle.splice.specs.Edit.{Edit}
-use Rattle.journal.specs.Journal.{NoPerson, Person, Authored, by, personOf, editIn, readEdits, Journal, inOrder, readJournal}
-use Rattle.journal.specs.Lent.{Lent, numbersFit, opened, personIn, person}
+use Rattle.journal.specs.Journal.{NoPerson, Person, Authored, by, personOf, editIn, readEdits, inOrder}
+use Rattle.journal.specs.Lent.{Lent, usedOf, opened, personIn, person}
 use Rattle.journal.specs.Walk.{editAt, edits}
 use Rattle.journal.proofs.Read.{edit-other, edit-bare, edit-person, edit-stub}
 use Rattle.journal.proofs.Edits.{mapped}
 use Rattle.journal.proofs.Joined.{cons, none-read, of, journal-says}
-
--- what is there
-pub some-there : {A : Type 0} (o : Option A) → there o ≡ true → (a : A) × (o ≡ some a)
-some-there none h = no (cc)
-some-there (some a) h = (a, refl)
+use Rattle.journal.proofs.Opened.{opened-says, opened-refused}
 
 -- ---- the record
 
@@ -119,28 +116,18 @@ module _ {s : List ℕ} {es : List (Authored Edit)} {n from : ℕ} (f : Found s 
 -- ---- the call
 
 module _ (s : Lent) (n : ℕ) where
-  pub person-unfit : numbersFit s ≡ false → refused Damaged ≡ person s n
-  unfolding person opened
-  person-unfit h = rw h
+  pub person-refused : accepted (opened s) ≡ false → refused Damaged ≡ person s n
+  unfolding person
+  person-refused h = rw (opened-refused s h)
 
-  module _ (f : numbersFit s ≡ true) where
-    pub person-damaged : there (readJournal (take (s .used) (s .journal)) (s .standing)) ≡ false → refused Damaged ≡ person s n
-    unfolding person opened
-    person-damaged h = rw f (go (readJournal (take (s .used) (s .journal)) (s .standing)) h)
-      where
-        go : (o : Option Journal) → there o ≡ false → refused Damaged ≡ (some-or o Damaged >>= λ j. personIn (inOrder j) n)
-        go none e = refl
-        go (some j) e = no (cc)
+  pub person-by : {x : Answer ℕ} → accepted (opened s) ≡ true → ((es : List (Authored Edit)) → edits (usedOf s) ≡ some es → x ≡ personIn es n) → x ≡ person s n
+  unfolding person
+  person-by h t =
+      let j = accepted-given (opened s) h in
+      rw (j .1) (t (inOrder (j .0)) (journal-says (usedOf s) (s .standing) (j .0) (opened-says s (j .0) (j .1) .reads) .in-order))
 
-    pub person-by : {x : Answer ℕ} → there (readJournal (take (s .used) (s .journal)) (s .standing)) ≡ true
-        → ((es : List (Authored Edit)) → edits (take (s .used) (s .journal)) ≡ some es → x ≡ personIn es n) → x ≡ person s n
-    unfolding person opened
-    person-by h t =
-        let j = some-there (readJournal (take (s .used) (s .journal)) (s .standing)) h in
-        rw (f, j .1) (t (inOrder (j .0)) (journal-says (take (s .used) (s .journal)) (s .standing) (j .0) (j .1) .in-order))
-
--- a sound journal has edits
-pub sound-edits : (s : List ℕ) (standing : ℕ) → there (readJournal s standing) ≡ true → there (edits s) ≡ true
-sound-edits s standing h =
-    let j = some-there (readJournal s standing) h in
-    rw (journal-says s standing (j .0) (j .1) .in-order)
+-- the journal in an opened buffer has edits
+pub opened-edits : (s : Lent) → accepted (opened s) ≡ true → there (edits (usedOf s)) ≡ true
+opened-edits s h =
+    let j = accepted-given (opened s) h in
+    rw (journal-says (usedOf s) (s .standing) (j .0) (opened-says s (j .0) (j .1) .reads) .in-order)

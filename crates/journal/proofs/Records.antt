@@ -1,10 +1,10 @@
 -- The journal's records read back: one edit, a list of them, and where they are parted. Assumes nothing.
 use mathlib.Core.Path.{_≡_, refl, ap, _∙_}
-use Prim.Native.Nat.{ℕ, suc, _+_, _-_, _≤_, _<_}
+use Prim.Native.Nat.{ℕ, zero, suc, _+_, _-_, _≤_, _<_}
 use native.Mathlib.Omega.{arith}
 use mathlib.Core.Option.{some}
 use mathlib.Core.List.{List, [], _∷_, _++_, append-nil, map, reverseAux, reverse, reverseAux-eq}
-use lib.ListN.{length, length-append}
+use lib.ListN.{length, take, drop, length-append}
 use lib.Seq.{take-append-seam, drop-append-seam, take-at, drop-at}
 use borrow.Author.Tests.{eq-eqb, ne-eqb, le-leb}
 use Rattle.base.specs.Lists.{joined}
@@ -15,7 +15,7 @@ use Rattle.record.proofs.Numbers.{fits-two, fits-four, number-back, length-numb
 use Rattle.record.proofs.Sizes.{length-record, list-cons, list-append}
 use Rattle.record.proofs.Back.{Fits, fits, FitsAll, no-record, one-more, cut-back}
 use Rattle.splice.specs.Edit.{Edit}
-use Rattle.journal.specs.Journal.{Author, NoPerson, Person, Authored, by, personOf, kindOf, authorBytes, editBytes, editRecord, frontLength, editLength, editIn, readEdit, readEdits, partedAt, readJournal}
+use Rattle.journal.specs.Journal.{Author, NoPerson, Person, Authored, by, personOf, kindOf, authorBytes, editBytes, editRecord, frontLength, editLength, lengths, editIn, readEdit, readEdits, partedAt, readJournal}
 
 -- ---- one edit
 
@@ -82,11 +82,6 @@ AllSmall (e ∷ es) = Small e × AllSmall es
 -- the bytes of edits one after another
 abbrev pub recorded : List (Authored Edit) → List ℕ
 recorded es = listBytes (map editRecord es)
-
--- the sum of their lengths
-abbrev pub lengths : List (Authored Edit) → ℕ
-lengths [] = 0
-lengths (e ∷ es) = lengths es + editLength e
 
 pub recorded-append : (es fs : List (Authored Edit)) → recorded (es ++ fs) ≡ recorded es ++ recorded fs
 recorded-append es fs = ap listBytes (map-append editRecord es fs) ∙ list-append (map editRecord es) (map editRecord fs)
@@ -157,3 +152,29 @@ recorded-parts es ws = ap recorded (reverseAux-eq es ws) ∙ recorded-append (re
 -- one more that stands
 pub recorded-more : (e : Authored Edit) (es : List (Authored Edit)) → recorded (reverse (e ∷ es)) ≡ recorded (reverse es) ++ recordBytes (editRecord e)
 recorded-more e es = recorded-parts es (e ∷ []) ∙ ap (λ (s : List ℕ). recorded (reverse es) ++ s) (recorded-one e)
+
+-- ---- the oldest of those that stand
+
+pub lengths-parted : (n : ℕ) (es : List (Authored Edit)) → lengths es ≡ lengths (take n es) + lengths (drop n es)
+lengths-parted zero es = omega arith
+lengths-parted (suc n) [] = refl
+lengths-parted (suc n) (e ∷ es) = omega (arith, lengths-parted n es)
+
+-- they come first, and then the others
+pub order-parted : (n : ℕ) (es ws : List (Authored Edit)) → reverseAux es ws ≡ reverseAux (drop n es) (reverseAux (take n es) ws)
+order-parted zero es ws = refl
+order-parted (suc n) [] ws = refl
+order-parted (suc n) (e ∷ es) ws = order-parted n es (e ∷ ws)
+
+-- those that stand come first, and then as many as are left of those that wait
+pub order-take : (es ws : List (Authored Edit)) (m : ℕ) → take (length es + m) (reverseAux es ws) ≡ reverseAux es (take m ws)
+order-take [] ws m = let z : 0 + m ≡ m = omega arith in rw z
+order-take (e ∷ es) ws m = let z : suc (length es) + m ≡ length es + suc m = omega arith in rw z (order-take es (e ∷ ws) (suc m))
+
+-- without the oldest
+pub recorded-rest : (n : ℕ) (es ws : List (Authored Edit)) → drop (lengths (drop n es)) (recorded (reverseAux es ws)) ≡ recorded (reverseAux (take n es) ws)
+recorded-rest n es ws =
+    let old : List (Authored Edit) = drop n es in
+    let others : List (Authored Edit) = reverseAux (take n es) ws in
+    let l : length (recorded (reverse old)) ≡ lengths old = recorded-length (reverse old) ∙ lengths-reverse old [] ∙ omega arith in
+    ap (drop (lengths old)) (ap recorded (order-parted n es ws) ∙ recorded-parts old others) ∙ drop-at (recorded (reverse old)) (recorded others) (lengths old) l

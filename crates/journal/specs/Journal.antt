@@ -1,4 +1,4 @@
--- The journal: edits as records, those that stand and those that were undone (01, "Edits and the journal"; 02, A9). Assumes nothing.
+-- The journal: edits as records, those that stand and those that were undone (01, "Edits and the journal"; 02, A9 and A10). Assumes nothing.
 use Prim.Native.Nat.{ℕ, _+_, _-_}
 use mathlib.Core.Option.{Option, none, some, Option·map}
 use mathlib.Core.List.{List, [], _∷_, _++_, reverseAux}
@@ -64,6 +64,11 @@ frontLength (Person n) = 20
 abbrev pub editLength : Authored Edit → ℕ
 editLength e = frontLength (e .author) + length (e .what .old) + length (e .what .new)
 
+-- the sum of some records' lengths
+abbrev pub lengths : List (Authored Edit) → ℕ
+lengths [] = 0
+lengths (e ∷ es) = lengths es + editLength e
+
 -- the edit in the bytes behind kind and author: 12 of numbers, so 18 of the record, or 20, plus both lengths; none: another length
 unfoldable pub editIn : List ℕ → Option Edit
 editIn s =
@@ -106,3 +111,11 @@ readJournal used standing = maybe (cut used) none (λ rs. maybe (readEdits rs) n
 abbrev pub nextOf : List (Authored Edit) → Option (Authored Edit)
 nextOf [] = none
 nextOf (e ∷ es) = some e
+
+-- the oldest k of edits, or requests, of which the latest comes first
+abbrev pub oldest : {A : Type 0} → ℕ → List A → List A
+oldest k stand = drop (length stand - k) stand
+
+-- all but these
+abbrev pub newer : {A : Type 0} → ℕ → List A → List A
+newer k stand = take (length stand - k) stand

@@ -11,9 +11,11 @@ use Rattle.fault.specs.Answer.{Answer, given, refused, _>>=_, some-or, then}
 use Rattle.record.specs.Number.{littleEndian}
 use Rattle.record.specs.Record.{headBytes, recordAt, whole, cut}
 use Rattle.splice.specs.Edit.{Edit}
-use Rattle.journal.specs.Journal.{Author, Authored, by, kindOf, authorBytes, frontLength, editLength, Journal, editIn, readEdit, readEdits, readJournal, nextOf}
+use Rattle.journal.specs.Journal.{Author, Authored, by, kindOf, authorBytes, frontLength, editLength, lengths, Journal, oldest, editIn, readEdit, readEdits, readJournal, nextOf}
 use Rattle.journal.specs.Lent as lent
 use Rattle.journal.specs.Lent.{personIn}
+use Rattle.journal.specs.declared.Oldest.{Oldest}
+use Rattle.journal.specs.declared.Oldest.the-variants.{End, Fewer}
 use Rattle.journal.specs.declared.Named.{Named}
 use Rattle.journal.specs.declared.Next.{Next}
 use Rattle.journal.specs.declared.Next.the-variants as next
@@ -124,3 +126,12 @@ Walks s standing (walked.Sound last) = Parted s standing last
 -- what is told of the n-th record
 abbrev pub TellsPerson : List ℕ → ℕ → Named → Type 0
 TellsPerson s n r = (es : List (Authored Edit)) → edits s ≡ some es → lent.answered r ≡ personIn es n
+
+-- where the records of the oldest k of those that stand end, or that fewer stand
+abbrev pub OldestIn : List (Authored Edit) → ℕ → Oldest → Type 0
+OldestIn stand k (End n) = (k ≤ length stand) × (n ≡ lengths (oldest k stand))
+OldestIn stand k Fewer = length stand < k
+
+-- so of the bytes of a sound journal
+abbrev pub EndsOldest : List ℕ → ℕ → ℕ → Oldest → Type 0
+EndsOldest s standing k r = (j : Journal) → readJournal s standing ≡ some j → OldestIn (j .stand) k r

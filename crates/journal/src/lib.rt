@@ -1,4 +1,4 @@
-// The journal of edits, and who made them.
+// The journal of edits, who made them, and forgetting the oldest.
 use fault::Fault;
 use record::Bounds;
 use record::Front;
@@ -9,12 +9,13 @@ ghost use Prim.Native.Nat.{_+_, _≤_};
 ghost use lib.ListN.{length, drop};
 ghost use Rattle.base.specs.Choice.{there};
 ghost use Rattle.base.specs.Over.{over};
+ghost use Rattle.fault.specs.Answer.{given, accepted};
 ghost use Rattle.record.specs.Number.{littleEndian};
 ghost use Rattle.record.specs.Record.{headBytes};
 ghost use Rattle.journal.specs.Journal as journal;
 ghost use Rattle.journal.specs.Journal.{readJournal};
 ghost use Rattle.journal.specs.Lent as lent;
-ghost use Rattle.journal.specs.Walk.{answered, latest, waiting, Within, editFront, ReadsBytes, Reads, edits, Walks, TellsPerson};
+ghost use Rattle.journal.specs.Walk.{answered, latest, waiting, Within, editFront, ReadsBytes, Reads, edits, Walks, TellsPerson, EndsOldest};
 
 // An edit from the journal: where its record starts, its place, where its old bytes start, where its new bytes start and where its record ends.
 pub enum Next {
@@ -38,6 +39,18 @@ enum Walked {
 // Who made an edit: a person's number, 0 where nobody is named, or a refusal.
 pub enum Named {
     Person(u16),
+    Refused(Fault),
+}
+
+// Where the oldest records end, or that fewer stand.
+enum Oldest {
+    End(usize),
+    Fewer,
+}
+
+// The two numbers after forgetting, or a refusal.
+pub enum Forgot {
+    Done { used: usize, standing: usize },
     Refused(Fault),
 }
 
@@ -239,16 +252,64 @@ fn person_in(used: &[u8], n: usize) -> Named
     Named::Person(0)
 }
 
+// Whether the numbers fit and the journal is sound.
+fn opens(journal: &[u8], used: usize, standing: usize) -> bool
+    ensures { λ r. ⌜ r ≡ accepted (lent.opened (lent.lent (now (journal .entry)) used standing)) ⌝ }
+{
+    if !fits(journal, used, standing) {
+        return false;
+    }
+    sound(&journal[..used], standing)
+}
+
 // The person of record n, from 0, standing or waiting. Refusals: 14 for the numbers and the journal, 12 without such a record.
 pub fn person(journal: &[u8], used: usize, standing: usize, n: usize) -> Named
     ensures { λ r. ⌜ lent.answered r ≡ lent.person (lent.lent (now (journal .entry)) used standing) n ⌝ }
 {
-    if !fits(journal, used, standing) {
+    if !opens(journal, used, standing) {
         return Named::Refused(Fault::Damaged);
     }
-    let records = &journal[..used];
-    if !sound(records, standing) {
-        return Named::Refused(Fault::Damaged);
+    person_in(&journal[..used], n)
+}
+
+// Where the oldest k records that stand end, in a journal that is sound.
+fn oldest_end(used: &[u8], standing: usize, k: usize) -> Oldest
+    requires { ⌜ there (readJournal (now used) standing) ≡ true ⌝ }
+    ensures { λ r. ⌜ EndsOldest (now (used .entry)) standing k r ⌝ }
+{
+    if k == 0 {
+        return Oldest::End(0);
     }
-    person_in(records, n)
+    let Bounds::Body { from: _, to } = record::nth(used, k - 1) else {
+        return Oldest::Fewer;
+    };
+    if standing < to {
+        return Oldest::Fewer;
+    }
+    Oldest::End(to)
+}
+
+// So many bytes go at the journal's front, of those that stand.
+fn drop_front(journal: &mut [u8], used: usize, standing: usize, gone: usize) -> Forgot
+    requires { ⌜ (gone ≤ standing) × (standing ≤ used) × (used ≤ length (now journal)) ⌝ }
+    ensures { λ r. ⌜ lent.leftIn (now (journal .exit)) r ≡ given (lent.without gone (lent.lent (now (journal .entry)) used standing)) ⌝ }
+{
+    splice::replace(journal, used, 0, gone, b"");
+    Forgot::Done {
+        used: used - gone,
+        standing: standing - gone,
+    }
+}
+
+// The oldest k records that stand go, and all others move to the front. Refusals: 14 for the numbers and the journal, 12 if fewer stand.
+pub fn forget(journal: &mut [u8], used: usize, standing: usize, k: usize) -> Forgot
+    ensures { λ r. ⌜ lent.Forgets (lent.lent (now (journal .entry)) used standing) k r (now (journal .exit)) ⌝ }
+{
+    if !opens(journal, used, standing) {
+        return Forgot::Refused(Fault::Damaged);
+    }
+    let Oldest::End(gone) = oldest_end(&journal[..used], standing, k) else {
+        return Forgot::Refused(Fault::NothingLeft);
+    };
+    drop_front(journal, used, standing, gone)
 }

@@ -1,4 +1,4 @@
--- The calls that read and write text, and the one that tells a person, are never refused with 2, so the byte of their refusals is 0.
+-- The calls that read and write text, and those to which the journal alone is lent, are never refused with 2, so the byte of their refusals is 0.
 -- Assumes nothing.
 use mathlib.Core.Path.{_≡_, refl}
 use Prim.Native.Nat.{ℕ, _+_}
@@ -6,7 +6,7 @@ use Prim.Native.Char.{code}
 use mathlib.Core.Bool.{Bool, true, false}
 use mathlib.Core.Option.{Option, none, some}
 use mathlib.Core.List.{List, [], _∷_}
-use lib.ListN.{length, take, getElem?}
+use lib.ListN.{length, getElem?}
 use lib.Dec.{eqb, leb}
 use Rattle.base.specs.Choice.{pick, maybe}
 use Rattle.base.specs.Lists.{all}
@@ -20,7 +20,7 @@ use Rattle.text.specs.Output.{told}
 use Rattle.text.specs.declared.Escapes.{Escapes}
 use Rattle.text.specs.declared.Escapes.the-variants as escapes
 use Rattle.journal.specs.Journal.{Authored, personOf, inOrder, readJournal}
-use Rattle.journal.specs.Lent.{Lent, numbersFit, journalIn, opened, personIn, person}
+use Rattle.journal.specs.Lent.{Lent, usedOf, numbersFit, journalIn, opened, personIn, person, forget}
 use Rattle.splice.specs.Edit.{Edit}
 use Rattle.kveldrim.specs.Abi.{byteIn}
 
@@ -61,12 +61,19 @@ list-not2 : (raw : List ℕ) → IfRefused Not2 (readElements raw)
 unfolding readElements elementsOf
 list-not2 raw = if-bind Not2 (elementsOf raw) _ (each-not2 (rawElements raw false) 0) (λ es. if-need Not2 (all fitsRecord es) NoRoom (λ _. given (listOf 2 es)) refl (λ _. tt))
 
+opened-not2 : (s : Lent) → IfRefused Not2 (opened s)
+unfolding opened
+opened-not2 s = if-need Not2 (numbersFit s) Damaged (λ _. journalIn s) refl (λ _. if-or Not2 (readJournal (usedOf s) (s .standing)) Damaged refl)
+
 person-not2 : (s : Lent) (n : ℕ) → IfRefused Not2 (person s n)
-unfolding person opened
+unfolding person
 person-not2 s n =
-    if-bind Not2 (opened s) (λ j. personIn (inOrder j) n)
-    (if-need Not2 (numbersFit s) Damaged (λ _. journalIn s) refl (λ _. if-or Not2 (readJournal (take (s .used) (s .journal)) (s .standing)) Damaged refl))
+    if-bind Not2 (opened s) (λ j. personIn (inOrder j) n) (opened-not2 s)
     (λ j. if-then Not2 (λ (e : Authored Edit). personOf (e .author)) (some-or (getElem? (inOrder j) n) NothingLeft) (if-or Not2 (getElem? (inOrder j) n) NothingLeft refl))
+
+pub forget-not2 : (s : Lent) (k : ℕ) → IfRefused Not2 (forget s k)
+unfolding forget
+forget-not2 s k = if-bind Not2 (opened s) _ (opened-not2 s) (λ j. if-need Not2 (leb k (length (j .stand))) NothingLeft _ refl (λ _. tt))
 
 -- ---- their bytes
 
@@ -87,9 +94,12 @@ write-zero text out = told-zero (writeText text) out (write-not2 text)
 pub list-zero : (raw out : List ℕ) → byteIn (told (readElements raw) out) ≡ 0
 list-zero raw out = told-zero (readElements raw) out (list-not2 raw)
 
+answer-zero : {A : Type 0} (a : Answer A) → IfRefused Not2 a → byteIn a ≡ 0
+answer-zero (given x) h = refl
+answer-zero (refused f) h = byte-zero f h
+
 pub person-zero : (s : Lent) (n : ℕ) → byteIn (person s n) ≡ 0
-person-zero s n = go (person s n) (person-not2 s n)
-  where
-    go : (a : Answer ℕ) → IfRefused Not2 a → byteIn a ≡ 0
-    go (given m) h = refl
-    go (refused f) h = byte-zero f h
+person-zero s n = answer-zero (person s n) (person-not2 s n)
+
+pub forget-zero : (s : Lent) (k : ℕ) → byteIn (forget s k) ≡ 0
+forget-zero s k = answer-zero (forget s k) (forget-not2 s k)

@@ -1,13 +1,18 @@
 -- What a C program sees of a call, from what the call answers and leaves. Assumes nothing.
-use mathlib.Core.Path.{_≡_, refl, sym, _∙_}
+use mathlib.Core.Path.{_≡_, refl, sym, ap, _∙_}
 use Prim.Native.Nat.{ℕ}
 use mathlib.Core.List.{List}
-use Rattle.fault.specs.Answer.{Answer, given, refused}
+use Rattle.fault.specs.declared.Fault.{Fault}
+use Rattle.fault.specs.Table.{numberOf, placeOf}
+use Rattle.fault.specs.Answer.{Answer, given, refused, atExit}
 use Rattle.entry.specs.Lookup.{Extent}
-use Rattle.edit.specs.Calls.{State, atExit}
+use Rattle.journal.specs.Lent.{Lent, lent, forget, Forgets}
+use Rattle.journal.specs.declared.Forgot.the-variants as forgot
+use Rattle.edit.specs.Calls.{State}
 use Rattle.edit.specs.Step.{answered, told, Made}
 use Rattle.edit.specs.declared.Edited.{Edited}
-use Rattle.kveldrim.specs.Abi.{codeOf, placeIn, byteIn, writtenIn, Returned, ReturnedNumber, ReturnedEnds, ReturnedNumbers, Called}
+use Rattle.kveldrim.proofs.NoByte.{forget-zero}
+use Rattle.kveldrim.specs.Abi.{codeOf, placeIn, byteIn, writtenIn, Returned, ReturnedNumber, ReturnedEnds, ReturnedNumbers, Called, CalledOnJournal}
 
 -- ---- the same is seen of equal answers
 
@@ -66,3 +71,15 @@ called {s} {a} {e} {code} {place} {byte} {size} {used} {standing} m t =
       file-is = m .file-is;
       journal-is = m .journal-is;
     }
+
+-- ---- forgetting
+
+module _ {s : Lent} {k : ℕ} {journal : List ℕ} where
+  pub forgot-done : {used standing : ℕ} → Forgets s k (forgot.Done used standing) journal → CalledOnJournal s (forget s k) 0 0 (lent journal used standing)
+  forgot-done m = rw (← m .answer) (record { returned = record { code-is = refl; place-is = refl; byte-is = refl }; left = refl })
+
+  pub forgot-refused : {f : Fault} {code place : ℕ} → Forgets s k (forgot.Refused f) journal → code ≡ numberOf f → place ≡ placeOf f
+      → CalledOnJournal s (forget s k) code place (lent journal (s .used) (s .standing))
+  forgot-refused m c p =
+      let e = m .answer in
+      record { returned = record { code-is = c ∙ ap codeOf e; place-is = p ∙ ap placeIn e; byte-is = sym (forget-zero s k) }; left = rw (← e, m .journal-is, ← e) }

@@ -4,14 +4,15 @@ use mathlib.Core.Path.{_≡_}
 use Prim.Native.Nat.{ℕ}
 use mathlib.Core.List.{List}
 use Rattle.fault.specs.Table.{numberOf, placeOf, byteOf}
-use Rattle.fault.specs.Answer.{Answer, given, refused}
+use Rattle.fault.specs.Answer.{Answer, given, refused, atExit}
 use Rattle.entry.specs.Lookup.{Extent}
-use Rattle.edit.specs.Calls.{State, atExit}
+use Rattle.journal.specs.Lent.{Lent}
+use Rattle.edit.specs.Calls.{State}
 use Rattle.edit.specs.Step.{Numbers}
 
--- the number of the C interface, raised whenever a signature changes
+-- the number of the C interface, raised whenever a call is new or its signature changes
 abbrev pub abi : ℕ
-abi = 2
+abi = 3
 
 -- the refusal's number, 0 if accepted
 abbrev pub codeOf : {A : Type 0} → Answer A → ℕ
@@ -58,6 +59,11 @@ pub record Called (s : State) (a : Answer State) (code place byte size used stan
   pub standing-is : standing ≡ atExit s a .standing
   pub file-is : file ≡ atExit s a .file
   pub journal-is : journal ≡ atExit s a .journal
+
+-- of the call that forgets, which tells no byte: the journal with its two numbers, as it returns
+pub record CalledOnJournal (s : Lent) (a : Answer Lent) (code place : ℕ) (t : Lent) : Type 0 where
+  pub returned : Returned a code place 0
+  pub left : t ≡ atExit s a
 
 -- the three numbers by what the call answered
 pub record ReturnedNumbers (a : Answer Numbers) (code place byte size₀ size used₀ used standing₀ standing : ℕ) : Type 0 where

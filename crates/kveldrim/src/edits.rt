@@ -1,12 +1,13 @@
-// The calls that edit, and the one that tells who edited. The three numbers go in and come out; a refusal leaves them and every lent byte.
+// The calls that edit, the one that tells who edited, and the one that forgets. The numbers go in and come out; a refusal leaves them and every lent byte.
 use edit::Edited;
+use journal::Forgot;
 use journal::Named;
 ghost use Rattle.change.specs.Change.{Set, Remove};
 ghost use Rattle.journal.specs.Journal.{Person, by};
-ghost use Rattle.journal.specs.Lent as who;
+ghost use Rattle.journal.specs.Lent as alone;
 ghost use Rattle.edit.specs.Calls.{request, undo, redo};
 ghost use Rattle.edit.specs.Step.{lent, answered};
-ghost use Rattle.kveldrim.specs.Abi.{ReturnedNumber, ReturnedNumbers, Called};
+ghost use Rattle.kveldrim.specs.Abi.{ReturnedNumber, ReturnedNumbers, Called, CalledOnJournal};
 
 // The answer of a call that edits.
 fn tell_edited(
@@ -130,7 +131,7 @@ pub extern "C" fn kveldrim_redo(
 
 // The answer of the call for a person.
 fn tell_named(n: Named, place: &mut u64, byte: &mut u64, person: &mut u16) -> u32
-    ensures { λ r. ⌜ ReturnedNumber (who.answered n) r (now (place .exit)) (now (byte .exit)) (now (person .entry)) (now (person .exit)) ⌝ }
+    ensures { λ r. ⌜ ReturnedNumber (alone.answered n) r (now (place .exit)) (now (byte .exit)) (now (person .entry)) (now (person .exit)) ⌝ }
 {
     match n {
         Named::Person(p) => {
@@ -152,11 +153,43 @@ pub extern "C" fn kveldrim_person(
     place: &mut u64,
     person: &mut u16,
 ) -> u32
-    ensures { λ r. ⌜ ReturnedNumber (who.person (who.lent (now (journal .entry)) used standing) n) r (now (place .exit)) 0 (now (person .entry)) (now (person .exit)) ⌝ }
+    ensures { λ r. ⌜ ReturnedNumber (alone.person (alone.lent (now (journal .entry)) used standing) n) r (now (place .exit)) 0 (now (person .entry)) (now (person .exit)) ⌝ }
 {
     let u = used as usize;
     let s = standing as usize;
     let i = n as usize;
     let mut byte = 0;
     tell_named(journal::person(journal, u, s, i), place, &mut byte, person)
+}
+
+#[no_mangle]
+pub extern "C" fn kveldrim_forget(
+    journal: &mut [u8],
+    used: &mut u64,
+    standing: &mut u64,
+    k: u64,
+    place: &mut u64,
+) -> u32
+    ensures { λ r. ⌜ CalledOnJournal (alone.lent (now (journal .entry)) (now (used .entry)) (now (standing .entry)))
+        (alone.forget (alone.lent (now (journal .entry)) (now (used .entry)) (now (standing .entry))) k)
+        r (now (place .exit)) (alone.lent (now (journal .exit)) (now (used .exit)) (now (standing .exit))) ⌝ }
+{
+    let u = *used as usize;
+    let n = *standing as usize;
+    let oldest = k as usize;
+    match journal::forget(journal, u, n, oldest) {
+        Forgot::Done {
+            used: u1,
+            standing: n1,
+        } => {
+            *place = 0;
+            *used = u1 as u64;
+            *standing = n1 as u64;
+            0
+        }
+        Forgot::Refused(f) => {
+            let mut byte = 0;
+            crate::refuse(f, place, &mut byte)
+        }
+    }
 }

@@ -32,6 +32,6 @@ standsAt place old file = leb (place + length old) (length file) && same (part p
 unfoldable pub stands : Edit → List ℕ → Bool
 stands e file = standsAt (e .place) (e .old) file
 
--- A buffer whose first bytes were a file of this length and now are another: zeros up to the old length, then its own bytes.
+-- A buffer whose first bytes were a file, or a journal, of this length and now are another: zeros up to the old length, then its own bytes.
 unfoldable pub bufferWith : List ℕ → ℕ → List ℕ → List ℕ
 bufferWith buffer size file = file ++ (replicate (size - length file) 0 ++ drop (max size (length file)) buffer)

@@ -64,7 +64,7 @@ impl Case {
         }
     }
 
-    /// The same without one of its calls that edit, or of the records where a person is asked for; none if there is no such one.
+    /// The same without one of its calls that edit, or of the records of its journal; none if there is no such one.
     pub fn without(&self, number: usize) -> Option<Case> {
         match self {
             Case::Edits(list) => Some(Case::Edits(list.without(number)?)),
@@ -357,7 +357,7 @@ impl Asker {
             let mut expected_out = out.bytes().to_vec();
             let expected = reference(input, &mut expected_out);
             self.count(name, &expected);
-            let mut numbers = Numbers::without_byte();
+            let mut numbers = Numbers::new().without_byte();
             let [place, _, written, ..] = numbers.pointers();
             // SAFETY: the bytes and the numbers outlive the call.
             let result = unsafe {

@@ -6,6 +6,8 @@ use reference::{Book, RecordKind, Refusal, State};
 
 use crate::calls::{bound, named, Asker};
 use crate::lent::{Lent, Numbers};
+use crate::lists;
+use crate::persons::Question;
 
 #[derive(Clone, Copy, PartialEq, Eq)]
 pub enum Kind {
@@ -13,6 +15,8 @@ pub enum Kind {
     Remove,
     Undo,
     Redo,
+    /// So many edits are to be forgotten.
+    Forget(u64),
 }
 
 /// A call with its arguments; those that it does not take are empty.
@@ -76,11 +80,22 @@ pub fn proved(call: &Call, given: &Given) -> u32 {
         Kind::Remove => made!(ffi::kveldrim_remove, given; person, group, key),
         Kind::Undo => made!(ffi::kveldrim_undo, given),
         Kind::Redo => made!(ffi::kveldrim_redo, given),
+        // SAFETY: the bytes and the numbers outlive the call.
+        Kind::Forget(k) => unsafe {
+            ffi::kveldrim_forget(
+                given.journal.0,
+                given.journal.1,
+                given.used,
+                given.standing,
+                k,
+                given.place,
+            )
+        },
     }
 }
 
 impl Call {
-    /// A call without arguments: an undo or a redo.
+    /// A call without names and text: an undo, a redo or a forget.
     pub fn step(kind: Kind) -> Call {
         Call {
             kind,
@@ -114,14 +129,16 @@ impl Call {
             Kind::Remove => "remove",
             Kind::Undo => "undo",
             Kind::Redo => "redo",
+            Kind::Forget(_) => "forget",
         }
     }
 
-    /// The name, and for a set or remove what it records.
+    /// The name, and for a set or remove what it records, for a forget how many.
     fn words(&self) -> String {
         let name = self.name();
         match (self.kind, self.record) {
             (Kind::Undo | Kind::Redo, _) => name.to_string(),
+            (Kind::Forget(k), _) => format!("{name} {k}"),
             (_, RecordKind::One) => format!("{name} of 01"),
             (_, RecordKind::Four(person)) => format!("{name} by person {person}"),
         }
@@ -138,15 +155,21 @@ impl Call {
             Kind::Remove => reference::remove(state, self.record, &self.group, &self.key),
             Kind::Undo => reference::undo(state),
             Kind::Redo => reference::redo(state),
+            Kind::Forget(k) => {
+                let (used, standing) = (&mut state.used, &mut state.standing);
+                reference::forget(&mut state.journal, used, standing, k)
+            }
         }
     }
 
-    fn on_book(&self, book: &mut Book) -> Result<(), Refusal> {
+    /// The call in a book of the reference.
+    pub fn on_book(&self, book: &mut Book) -> Result<(), Refusal> {
         match self.kind {
             Kind::Set => book.set(self.record, &self.group, &self.key, &self.text),
             Kind::Remove => book.remove(self.record, &self.group, &self.key),
             Kind::Undo => book.undo(),
             Kind::Redo => book.redo(),
+            Kind::Forget(k) => book.forget(k),
         }
     }
 
@@ -158,6 +181,7 @@ impl Call {
             Kind::Remove => buffers.remove(person, &self.group, &self.key),
             Kind::Undo => buffers.undo(),
             Kind::Redo => buffers.redo(),
+            Kind::Forget(k) => buffers.forget(k),
         }
     }
 }
@@ -178,14 +202,33 @@ impl List {
         list
     }
 
-    /// The same without one of the calls, 01's first; none if there is no such call.
-    pub fn without(&self, call: usize) -> Option<List> {
+    /// The same without one of the calls, 01's first, or behind these without one of the records that the journal starts with; none
+    /// if there is no such one.
+    pub fn without(&self, number: usize) -> Option<List> {
         let mut list = self.clone();
-        let (calls, call) = match call.checked_sub(list.old_calls.len()) {
-            Some(call) => (&mut list.calls, call),
-            None => (&mut list.old_calls, call),
+        let calls = list.old_calls.len() + list.calls.len();
+        if let Some(record) = number.checked_sub(calls) {
+            let State {
+                journal,
+                used,
+                standing,
+                ..
+            } = &self.start;
+            let fewer = Question {
+                journal: journal.clone(),
+                used: *used,
+                standing: *standing,
+                n: 0,
+            };
+            let fewer = fewer.without(record)?;
+            (list.start.used, list.start.standing) = (fewer.used, fewer.standing);
+            list.start.journal = fewer.journal;
+            return Some(list);
+        }
+        match number.checked_sub(list.old_calls.len()) {
+            Some(call) => list.calls.remove(call),
+            None => list.old_calls.remove(number),
         };
-        (call < calls.len()).then(|| drop(calls.remove(call)))?;
         Some(list)
     }
 
@@ -255,10 +298,42 @@ fn step_of_kind_1(call: &Call, before: u64, state: &State) -> Option<&'static st
     let name = match call.kind {
         Kind::Undo => "undo of kind 1",
         Kind::Redo => "redo of kind 1",
-        Kind::Set | Kind::Remove => return None,
+        _ => return None,
     };
     let start = before.min(state.standing) as usize;
     (before != state.standing && state.journal[start + 4] == 1).then_some(name)
+}
+
+/// The name under which a forget on such a state is counted: what is wrong with the state, or how many are to go.
+fn forget_of(k: u64, state: &State) -> &'static str {
+    let (used, standing) = (state.used, state.standing);
+    let is_14 = |standing| {
+        let told = reference::person(&state.journal, used, standing, 0);
+        told.is_err_and(|refusal| refusal.number == 14)
+    };
+    if used > state.journal.len() as u64 {
+        return "forget, used over the room";
+    }
+    if used > kveldrim::JOURNAL_BOUND as u64 {
+        return "forget, used over the bound";
+    }
+    if standing > used {
+        return "forget, standing over used";
+    }
+    if is_14(0) {
+        return "forget, damaged records";
+    }
+    if is_14(standing) {
+        return "forget, standing inside a record";
+    }
+    let count = |bytes| lists::count(&state.journal, bytes);
+    match (k, count(standing)) {
+        (0, _) => "forget none",
+        (k, _) if k > count(used) => "forget more than there are",
+        (k, stand) if k > stand => "forget some that wait",
+        (k, stand) if k == stand => "forget all that stand",
+        _ => "forget some that stand",
+    }
 }
 
 impl Asker {
@@ -268,17 +343,36 @@ impl Asker {
         list: &List,
         editor: &dyn Fn(&Call, &Given) -> u32,
     ) -> Result<(), String> {
+        match list.book() {
+            Some(mut book) => {
+                self.edits_in_book(list, editor, &mut |call| Some(Page::of(call, &mut book)))
+            }
+            None => self.edits_in_book(list, editor, &mut |_| None),
+        }
+    }
+
+    /// As [`Asker::edits`], with a book that tells each call's page, or with none.
+    pub fn edits_in_book(
+        &mut self,
+        list: &List,
+        editor: &dyn Fn(&Call, &Given) -> u32,
+        book: &mut dyn FnMut(&Call) -> Option<Page>,
+    ) -> Result<(), String> {
         let mut state = list.left();
         let mut bound = state.clone();
-        let mut book = list.book();
         let mut file = self.lend(&state.file);
         let mut journal = self.lend(&state.journal);
         for (at, call) in list.calls.iter().enumerate() {
-            let given = Numbers::given(numbers(&state));
+            let mut given = Numbers::given(numbers(&state));
             let before = state.standing;
+            let mut name = call.name();
+            if let Kind::Forget(k) = call.kind {
+                given = given.without_byte();
+                name = forget_of(k, &state);
+            }
             let expected = call.on_state(&mut state);
             let of_kind_1 = step_of_kind_1(call, before, &state);
-            self.count(of_kind_1.unwrap_or(call.name()), &expected);
+            self.count(of_kind_1.unwrap_or(name), &expected);
             let outcome = self
                 .edit(
                     call,
@@ -289,8 +383,8 @@ impl Asker {
                     editor,
                 )
                 .and_then(|()| on_bindings(call, &mut bound, &state, expected))
-                .and_then(|()| match &mut book {
-                    Some(book) => on_book(call, book, &state, expected),
+                .and_then(|()| match book(call) {
+                    Some(page) => in_book(page, &state, expected),
                     None => Ok(()),
                 });
             named(
@@ -372,21 +466,38 @@ fn on_bindings(
     }
 }
 
-/// The call in the book, which tells the same and has the same file, standing number and persons.
-fn on_book(
-    call: &Call,
-    book: &mut Book,
-    state: &State,
-    expected: Result<(), Refusal>,
-) -> Result<(), String> {
-    let told = call.on_book(book);
-    let file = &state.file[..state.file_len as usize];
-    let person = |n| reference::person(&state.journal, state.used, state.standing, n);
-    let persons: Vec<u16> = (0..).map_while(|n| person(n).ok()).collect();
-    if (told, &book.file()[..], book.standing(), book.persons())
-        == (expected, file, state.standing, persons)
-    {
-        return Ok(());
+/// What a book tells of a call, and has after it.
+#[derive(Debug, PartialEq)]
+pub struct Page {
+    pub told: Result<(), Refusal>,
+    pub file: Vec<u8>,
+    pub standing: u64,
+    pub persons: Vec<u16>,
+}
+
+impl Page {
+    /// The page of the reference's book.
+    pub fn of(call: &Call, book: &mut Book) -> Page {
+        Page {
+            told: call.on_book(book),
+            file: book.file(),
+            standing: book.standing(),
+            persons: book.persons(),
+        }
     }
-    Err(format!("the book tells {told:?}, the journal {expected:?}, or their files, standing numbers or persons differ"))
+}
+
+/// Whether the book tells the same as the journal and has the same file, standing number and persons.
+fn in_book(page: Page, state: &State, expected: Result<(), Refusal>) -> Result<(), String> {
+    let person = |n| reference::person(&state.journal, state.used, state.standing, n);
+    let journal = Page {
+        told: expected,
+        file: state.file[..state.file_len as usize].to_vec(),
+        standing: state.standing,
+        persons: (0..).map_while(|n| person(n).ok()).collect(),
+    };
+    match page == journal {
+        true => Ok(()),
+        false => Err(format!("the book has  {page:?}\nthe journal   {journal:?}")),
+    }
 }

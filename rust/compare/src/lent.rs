@@ -110,11 +110,10 @@ impl Numbers {
         Numbers { slots, given }
     }
 
-    /// Those of a call that is lent no byte, which is then 0.
-    pub fn without_byte() -> Numbers {
-        let mut numbers = Numbers::new();
-        numbers.slots[3] = 0;
-        numbers
+    /// The same for a call that is lent no byte, which is then 0.
+    pub fn without_byte(mut self) -> Numbers {
+        self.slots[3] = 0;
+        self
     }
 
     /// A number that was not written but for its first two bytes, which are these.

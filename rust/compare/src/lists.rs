@@ -1,7 +1,5 @@
 //! Makes lists of calls that edit: sound starts, worked journals, damaged and foreign ones, and those near the bounds. The same
-//! journals serve where the person of a record is asked for.
-
-use std::ops::RangeInclusive;
+//! journals serve where the person of a record is asked for, and where edits are forgotten.
 
 use reference::{RecordKind, State};
 
@@ -48,16 +46,15 @@ fn roomy(file: &[u8], random: &mut Random) -> State {
 /// A list from a file with an empty journal. Its calls share a few names, most of which the file has.
 pub fn started(file: &[u8], most: usize, random: &mut Random) -> List {
     let start = roomy(file, random);
-    continued(start, 1..=most, random)
+    continued(start, 0, random.within(1, most), random)
 }
 
 /// As [`started`], but the first calls are 01's; at least one is, and at least one is not.
 pub fn started_by_old_calls(file: &[u8], most: usize, random: &mut Random) -> List {
     let start = roomy(file, random);
-    let mut list = continued(start, 2..=most, random);
-    let count = random.within(1, list.calls.len() - 1);
-    list.old_calls = list.calls.drain(..count).map(Call::old).collect();
-    list
+    let count = random.within(2, most);
+    let old_calls = random.within(1, count - 1);
+    continued(start, old_calls, count - old_calls, random)
 }
 
 /// As [`started`], or in half of the cases as [`started_by_old_calls`].
@@ -68,8 +65,9 @@ pub fn started_by_any(file: &[u8], most: usize, random: &mut Random) -> List {
     }
 }
 
-/// So many calls from a start on.
-fn continued(start: State, calls: RangeInclusive<usize>, random: &mut Random) -> List {
+/// So many of 01's calls from a start on, and so many calls behind these.
+fn continued(start: State, old_calls: usize, calls: usize, random: &mut Random) -> List {
+    let mut state = start.clone();
     let mut list = List {
         start,
         old_calls: Vec::new(),
@@ -78,22 +76,55 @@ fn continued(start: State, calls: RangeInclusive<usize>, random: &mut Random) ->
     let asks: Vec<_> = (0..random.within(1, 5))
         .map(|_| files::ask(list.file(), random))
         .collect();
-    for _ in 0..random.within(*calls.start(), *calls.end()) {
+    for number in 0..old_calls + calls {
+        let is_old = number < old_calls;
         let ask = &asks[random.below(asks.len())];
-        let kind = match random.below(20) {
+        // 01 has no forget.
+        let kind = match random.below(if is_old { 20 } else { 23 }) {
             0..=7 => Kind::Set,
             8..=11 => Kind::Remove,
             12..=16 => Kind::Undo,
-            _ => Kind::Redo,
+            17..=19 => Kind::Redo,
+            _ => Kind::Forget(how_many(&state, random)),
         };
         let key = if random.once_in(4) {
             &ask.plain
         } else {
             &ask.key
         };
-        list.calls.push(call(kind, &ask.group, key, random));
+        let mut made = call(kind, &ask.group, key, random);
+        if is_old {
+            made = made.old();
+        }
+        put(&mut list, &mut state, made);
     }
     list
+}
+
+/// Puts a call at the end of a list, or of 01's calls if it is one, and makes it on the state that the list has come to.
+fn put(list: &mut List, state: &mut State, made: Call) {
+    let _ = made.on_state(state);
+    match made.record {
+        RecordKind::One => list.old_calls.push(made),
+        RecordKind::Four(_) => list.calls.push(made),
+    }
+}
+
+/// How many edits of a state to forget: none, one, some or all that stand, more than stand or are there, a very large number.
+fn how_many(state: &State, random: &mut Random) -> u64 {
+    let stand = count(&state.journal, state.standing);
+    match random.below(12) {
+        0 => 0,
+        1..=3 => 1,
+        4 => stand,
+        5 => stand + 1,
+        6 => stand.saturating_sub(1),
+        7 => count(&state.journal, state.used),
+        8 => count(&state.journal, state.used) + 1,
+        9 => u64::MAX - random.number() % 3,
+        10 => (1 << 32) + random.number() % (stand + 1),
+        _ => random.number() % (stand + 1),
+    }
 }
 
 /// A person: one at a border of the two bytes, or any.
@@ -149,18 +180,24 @@ fn worked(most: usize, random: &mut Random) -> State {
 
 /// A list from a state with something wrong in it: a number, a byte of the journal or of the file, a buffer cut short.
 pub fn damaged(random: &mut Random) -> Case {
-    let mut state = worked(8, random);
+    let state = damaged_after(8, random);
+    Case::Edits(continued(state, 0, random.within(1, 4), random))
+}
+
+/// As [`worked`], with something wrong in it.
+fn damaged_after(most: usize, random: &mut Random) -> State {
+    let mut state = worked(most, random);
     for _ in 0..random.within(1, 2) {
         damage(&mut state, random);
     }
-    Case::Edits(continued(state, 1..=4, random))
+    state
 }
 
 fn damage(state: &mut State, random: &mut Random) {
     let used = state.journal.len().min(state.used as usize);
     let starts = records(&state.journal[..used]);
     let start = starts[random.below(starts.len())];
-    match random.below(16) {
+    match random.below(17) {
         0 => state.file_len = odd(state.file_len, state.file.len(), random),
         1 => state.used = odd(state.used, state.journal.len(), random),
         2 => state.standing = odd(state.standing, used, random),
@@ -201,6 +238,8 @@ fn damage(state: &mut State, random: &mut Random) {
                 state.standing = state.standing.min(start as u64);
             }
         }
+        // Between two records.
+        15 => state.journal.truncate(start),
         _ => state
             .journal
             .truncate(random.within(0, state.journal.len())),
@@ -233,6 +272,12 @@ pub fn records(used: &[u8]) -> Vec<usize> {
         starts.push(at);
     }
     starts
+}
+
+/// How many records these first bytes of a journal have, by their lengths.
+pub fn count(journal: &[u8], bytes: u64) -> u64 {
+    let bytes = journal.len().min(bytes as usize);
+    records(&journal[..bytes]).len() as u64 - 1
 }
 
 /// A journal's record.
@@ -276,7 +321,7 @@ pub fn foreign(random: &mut Random) -> Case {
     if random.once_in(8) {
         damage(&mut state, random);
     }
-    Case::Edits(continued(state, 1..=5, random))
+    Case::Edits(continued(state, 0, random.within(1, 5), random))
 }
 
 /// A state whose journal no call wrote: its records are sound and of both kinds, but what they say of the file is anything.
@@ -319,14 +364,18 @@ fn foreign_state(random: &mut Random) -> State {
     state
 }
 
-/// The person of a record in a journal that calls left.
-pub fn person_of_worked(random: &mut Random) -> Case {
-    let state = worked(20, random);
-    asked(state, random)
+/// A state whose journal calls left.
+pub fn worked_journal(random: &mut Random) -> State {
+    worked(20, random)
 }
 
-/// The person of a record in a foreign journal, now and then with used bytes at the bound.
-pub fn person_of_foreign(random: &mut Random) -> Case {
+/// A state with something wrong in its journal.
+pub fn damaged_journal(random: &mut Random) -> State {
+    damaged_after(20, random)
+}
+
+/// A state with a foreign journal, now and then with used bytes at the bound.
+pub fn foreign_journal(random: &mut Random) -> State {
     let mut state = foreign_state(random);
     if random.once_in(20) {
         let used = state.used as usize;
@@ -337,27 +386,39 @@ pub fn person_of_foreign(random: &mut Random) -> Case {
         state.journal.extend(last);
         state.used = state.journal.len() as u64;
     }
-    asked(state, random)
+    state
 }
 
-/// The person of a record in a journal with something wrong in it.
-pub fn person_of_damaged(random: &mut Random) -> Case {
-    let mut state = worked(20, random);
-    for _ in 0..random.within(1, 2) {
-        damage(&mut state, random);
+/// Cases about journals.
+pub fn cases(
+    journal: fn(&mut Random) -> State,
+    case: fn(State, &mut Random) -> Case,
+) -> impl Fn(&mut Random) -> Case {
+    move |random| {
+        let state = journal(random);
+        case(state, random)
     }
-    asked(state, random)
+}
+
+/// Some edits of a state are to be forgotten.
+pub fn forget_in(state: State, random: &mut Random) -> Case {
+    let forget = Call::step(Kind::Forget(how_many(&state, random)));
+    Case::Edits(List {
+        start: state,
+        old_calls: Vec::new(),
+        calls: vec![forget],
+    })
 }
 
 /// The person of a record of a state's journal: mostly one that is there, else one behind the last or of a very large number.
-fn asked(state: State, random: &mut Random) -> Case {
+pub fn person_in(state: State, random: &mut Random) -> Case {
     let State {
         journal,
         used,
         standing,
         ..
     } = state;
-    let count = records(&journal[..journal.len().min(used as usize)]).len() - 1;
+    let count = count(&journal, used) as usize;
     let n = match random.below(12) {
         0 => count,
         1 => count + random.within(1, 3),
@@ -407,7 +468,7 @@ pub fn near_file_bound(random: &mut Random) -> Case {
         _ => most - 5,
     };
     let start = buffers(&file, file_more, JOURNAL_BOUND, random);
-    Case::Edits(continued(start, 1..=5, random))
+    Case::Edits(continued(start, 0, random.within(1, 5), random))
 }
 
 /// A list of long texts, which fill a journal up to the bound.
@@ -423,49 +484,44 @@ pub fn near_journal_bound(random: &mut Random) -> Case {
         old_calls: Vec::new(),
         calls: Vec::new(),
     };
+    let mut state = list.start.clone();
     let old_calls = random.below(4);
-    let mut standing = 0;
-    let mut old = [1; 3];
     for number in 0..random.within(4, 12) {
-        let name = random.below(3);
-        let (group, key) = [
-            ("Desktop Entry", "Name"),
-            ("Desktop Entry", "Name[de]"),
-            ("X", "Name"),
-        ][name];
-        let kind = match random.below(6) {
+        let is_old = number < old_calls;
+        let (group, key): (&[u8], &[u8]) = [
+            (&b"Desktop Entry"[..], &b"Name"[..]),
+            (b"Desktop Entry", b"Name[de]"),
+            (b"X", b"Name"),
+        ][random.below(3)];
+        let kind = match random.below(if is_old { 6 } else { 7 }) {
             0 => Kind::Undo,
             1 => Kind::Redo,
+            6 => Kind::Forget(how_many(&state, random)),
             _ => Kind::Set,
         };
-        let mut made = call(kind, group.as_bytes(), key.as_bytes(), random);
-        if number < old_calls {
+        let mut made = call(kind, group, key, random);
+        if is_old {
             made = made.old();
         }
         if kind == Kind::Set {
-            let head = made.record.head();
             // Now and then just as much as there is room for, or a byte more.
-            let left = room
-                .min(JOURNAL_BOUND)
-                .saturating_sub(standing + head + old[name]);
+            let file = &state.file[..state.file_len as usize];
+            let (from, to) = reference::lookup(file, group, key).unwrap();
+            let taken = state.standing as usize + made.record.head() + (to - from);
+            let left = room.min(JOURNAL_BOUND).saturating_sub(taken);
             let length = match left {
                 0..=10_500 if random.once_in(2) => left + random.below(3),
                 _ => random.within(1, 10_500),
             };
             made.text = vec![random.byte_of(b"abc"); length];
-            standing += head + old[name] + length;
-            old[name] = length;
         }
-        match number < old_calls {
-            true => list.old_calls.push(made),
-            false => list.calls.push(made),
-        }
+        put(&mut list, &mut state, made);
     }
     Case::Edits(list)
 }
 
 /// Calls on a file, the first of them 01's, with each size of a buffer, from nothing to `more` bytes over what they need, then an
-/// undo, a redo and one more undo.
+/// undo, a redo, a forget and one more undo.
 pub fn every_size(
     file: &[u8],
     old_calls: &[Call],
@@ -480,7 +536,7 @@ pub fn every_size(
         longest = longest.max(done.file_len as usize);
     }
     let (grown, used) = (longest - file.len(), done.used as usize);
-    let steps = [Kind::Undo, Kind::Redo, Kind::Undo].map(Call::step);
+    let steps = [Kind::Undo, Kind::Redo, Kind::Forget(1), Kind::Undo].map(Call::step);
     let journals = (0..=used + more).map(|room| (grown + more, room));
     let files = (0..=grown + more).map(|room| (room, used));
     journals

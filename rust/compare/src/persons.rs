@@ -125,7 +125,7 @@ impl Asker {
         } = question;
         let expected: Result<u16, Refusal> = reference::person(journal, *used, *standing, *n);
         let lent = self.lend(journal);
-        let mut numbers = Numbers::without_byte();
+        let mut numbers = Numbers::new().without_byte();
         let [place, _, person, ..] = numbers.pointers();
         let given = Given {
             journal: (lent.pointer(), lent.len()),

@@ -25,6 +25,11 @@ const FROM_SOUND: Outcomes = &[
     ("remove", &[0, 7, 8, 13, 17]),
     ("undo", &[0, 12]),
     ("redo", &[0, 12]),
+    ("forget none", &[0]),
+    ("forget some that stand", &[0]),
+    ("forget all that stand", &[0]),
+    ("forget some that wait", &[12]),
+    ("forget more than there are", &[12]),
 ];
 
 #[test]
@@ -56,6 +61,10 @@ fn spoilt_starts() {
         ("remove", file),
         ("undo", file),
         ("redo", file),
+        // The file is not asked.
+        ("forget none", &[0]),
+        ("forget all that stand", &[0]),
+        ("forget more than there are", &[12]),
     ];
     run("spoilt_starts", SPOILT, outcomes, |random| {
         let mut file = files::sound(random, 3, 4);
@@ -71,6 +80,12 @@ fn damaged_journals_and_wrong_numbers() {
         ("remove", &[0, 2, 8, 13, 14]),
         ("undo", &[0, 2, 12, 14]),
         ("redo", &[0, 2, 12, 14]),
+        ("forget some that stand", &[0]),
+        ("forget some that wait", &[12]),
+        ("forget, used over the room", &[14]),
+        ("forget, standing over used", &[14]),
+        ("forget, damaged records", &[14]),
+        ("forget, standing inside a record", &[14]),
     ];
     let test = "damaged_journals_and_wrong_numbers";
     run(test, DAMAGED, outcomes, lists::damaged);
@@ -78,7 +93,13 @@ fn damaged_journals_and_wrong_numbers() {
 
 #[test]
 fn foreign_journals() {
-    let outcomes: Outcomes = &[("undo", &[0, 11, 12, 14]), ("redo", &[0, 11, 12, 14])];
+    let outcomes: Outcomes = &[
+        ("undo", &[0, 11, 12, 14]),
+        ("redo", &[0, 11, 12, 14]),
+        ("forget some that stand", &[0]),
+        ("forget all that stand", &[0]),
+        ("forget some that wait", &[12]),
+    ];
     run("foreign_journals", FOREIGN, outcomes, lists::foreign);
 }
 
@@ -99,7 +120,13 @@ fn files_near_the_bound() {
 
 #[test]
 fn journals_near_the_bound() {
-    let outcomes: Outcomes = &[("set", &[0, 13]), ("undo", &[0]), ("redo", &[0, 12])];
+    let outcomes: Outcomes = &[
+        ("set", &[0, 13]),
+        ("undo", &[0]),
+        ("redo", &[0, 12]),
+        ("forget some that stand", &[0]),
+        ("forget all that stand", &[0]),
+    ];
     let test = "journals_near_the_bound";
     run(
         test,
@@ -144,7 +171,13 @@ fn buffers_of_every_size() {
             }
         }
     }
-    let outcomes: Outcomes = &[("set", &[0, 11, 13]), ("remove", &[0, 13])];
+    let outcomes: Outcomes = &[
+        ("set", &[0, 11, 13]),
+        ("remove", &[0, 13]),
+        ("forget some that stand", &[0]),
+        ("forget all that stand", &[0]),
+        ("forget more than there are", &[12]),
+    ];
     came_up("buffers_of_every_size", &asker.tally, outcomes);
 }
 
@@ -158,6 +191,7 @@ fn records_of_every_kind_and_length() {
         remove,
         Call::step(Kind::Undo),
         Call::step(Kind::Redo),
+        Call::step(Kind::Forget(1)),
     ];
     let mut asker = Asker::new(6);
     let mut random = Random::new(6);
@@ -165,7 +199,7 @@ fn records_of_every_kind_and_length() {
         for call in &calls {
             let mut start = lists::buffers(lists::SINGLE, 10, 0, &mut random);
             (start.journal, start.used) = (journal.clone(), used);
-            if call.kind == Kind::Undo {
+            if matches!(call.kind, Kind::Undo | Kind::Forget(_)) {
                 start.standing = used;
             }
             let list = List {
@@ -183,6 +217,9 @@ fn records_of_every_kind_and_length() {
         ("redo", &[0, 12, 14]),
         ("undo of kind 1", &[0]),
         ("redo of kind 1", &[0]),
+        ("forget all that stand", &[0]),
+        ("forget more than there are", &[12]),
+        ("forget, damaged records", &[14]),
     ];
     came_up("records_of_every_kind_and_length", &asker.tally, outcomes);
 }

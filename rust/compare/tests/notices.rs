@@ -1,12 +1,12 @@
 //! The comparison itself: what it must notice, it does.
 
 use compare::calls::{Asker, Case};
-use compare::edits::{proved, Call, Given, Kind};
+use compare::edits::{proved, Call, Given, Kind, List, Page};
 use compare::lent::{Lent, Numbers};
 use compare::random::Random;
 use compare::{files, lists, persons};
 use kveldrim::{ffi, JOURNAL_BOUND};
-use reference::{RecordKind, Refusal, State};
+use reference::{Book, RecordKind, Refusal, State};
 
 #[test]
 fn a_changed_byte_in_a_buffer_or_beside_it() {
@@ -57,7 +57,7 @@ fn a_number_that_is_wrong_missing_or_too_many() {
     assert!(told(0, Some(1), Some(9)).tell(0, &accepted).is_err());
     assert!(told(0, None, Some(9)).tell(0, &accepted).is_err());
     assert!(told(0, Some(0), None).tell(0, &accepted).is_err());
-    let mut without = Numbers::without_byte();
+    let mut without = Numbers::new().without_byte();
     let [place, _, written, ..] = without.pointers();
     // SAFETY: both point into `without`.
     unsafe { (*place, *written) = (0, 9) };
@@ -145,18 +145,18 @@ fn is_noticed(editor: &dyn Fn(&Call, &Given) -> u32) -> bool {
 /// Something wrong that is done after a call.
 type Wrong = fn(&Given);
 
-/// The proved call, and then something wrong if the call was of this kind and told this.
-fn spoilt(kind: Kind, accepted: bool, wrong: Wrong) -> impl Fn(&Call, &Given) -> u32 {
+/// The proved call, and then something wrong if the call had this name and told this.
+fn spoilt(name: &'static str, accepted: bool, wrong: Wrong) -> impl Fn(&Call, &Given) -> u32 {
     move |call, given| {
         let told = proved(call, given);
-        if call.kind == kind && (told == 0) == accepted {
+        if call.name() == name && (told == 0) == accepted {
             wrong(given);
         }
         told
     }
 }
 
-const KINDS: [Kind; 4] = [Kind::Set, Kind::Remove, Kind::Undo, Kind::Redo];
+const NAMES: [&str; 5] = ["set", "remove", "undo", "redo", "forget"];
 
 #[test]
 fn the_proved_editor_is_right() {
@@ -199,17 +199,18 @@ fn an_edit_that_writes_something_wrong() {
         }),
     ];
     for (what, wrong) in wrongs {
-        for kind in KINDS {
+        for name in NAMES {
             for accepted in [true, false] {
-                assert!(is_noticed(&spoilt(kind, accepted, wrong)), "{what}");
+                let editor = spoilt(name, accepted, wrong);
+                assert!(is_noticed(&editor), "{what} after a {name}");
             }
         }
     }
 }
 
-/// A call that is right but for one thing that is easily forgotten.
+/// A call that is right but for one thing that is easily left out.
 #[test]
-fn an_edit_that_forgets_something() {
+fn an_edit_that_leaves_something_out() {
     type Editor = fn(&Call, &Given) -> u32;
     // SAFETY of all: what is read and written is lent, and lengths are those of an accepted call.
     let editors: [(&str, Editor); 6] = [
@@ -357,20 +358,337 @@ fn an_edit_with_a_wrong_person_or_kind() {
     }
 }
 
-/// Whether journals, worked, foreign and damaged, show that a call that tells a person is not the right one.
-fn is_teller_noticed(teller: &dyn Fn(&persons::Given) -> u32) -> bool {
+/// Whether a difference shows in a case about a journal, worked, foreign or damaged.
+fn is_seen_in_journals(
+    case: fn(State, &mut Random) -> Case,
+    differs: impl Fn(&mut Asker, Case) -> bool,
+) -> bool {
     let mut asker = Asker::new(1);
     (1..=1_500).any(|seed| {
         let mut random = Random::new(seed);
-        let case = match seed % 3 {
-            0 => lists::person_of_worked(&mut random),
-            1 => lists::person_of_foreign(&mut random),
-            _ => lists::person_of_damaged(&mut random),
+        let journal = match seed % 3 {
+            0 => lists::worked_journal,
+            1 => lists::foreign_journal,
+            _ => lists::damaged_journal,
         };
-        match case {
-            Case::Person(question) => asker.person(&question, teller).is_err(),
-            _ => false,
+        differs(&mut asker, lists::cases(journal, case)(&mut random))
+    })
+}
+
+/// A call that forgets edits, over the journal, its used and its standing bytes.
+type Forget = fn(&mut [u8], &mut u64, &mut u64, u64) -> Result<(), Refusal>;
+
+/// Whether single calls show that a call that forgets edits is not the right one.
+fn is_forget_noticed(forget: Forget) -> bool {
+    let editor = |call: &Call, given: &Given| {
+        let Kind::Forget(k) = call.kind else {
+            return proved(call, given);
+        };
+        // SAFETY: the numbers are lent, and the journal if it has bytes.
+        unsafe {
+            let journal = match given.journal {
+                (_, 0) => &mut [],
+                (pointer, length) => std::slice::from_raw_parts_mut(pointer, length),
+            };
+            let told = forget(journal, &mut *given.used, &mut *given.standing, k);
+            let Refusal { number, place, .. } = told.err().unwrap_or(Refusal::new(0));
+            *given.place = place;
+            number
         }
+    };
+    is_seen_in_journals(lists::forget_in, |asker, case| match case {
+        Case::Edits(list) => asker.edits(&list, &editor).is_err(),
+        _ => false,
+    })
+}
+
+/// Forgets and asks nothing: the records are found by their lengths alone, those that wait too. 12 where there are not so many.
+fn unasked(journal: &mut [u8], used: &mut u64, standing: &mut u64, k: u64) -> Result<(), Refusal> {
+    let used_bytes = &mut journal[..*used as usize];
+    let starts = lists::records(used_bytes);
+    let went = usize::try_from(k).ok().and_then(|k| starts.get(k));
+    let went = *went.ok_or(Refusal::new(12))?;
+    used_bytes[..went].fill(0);
+    used_bytes.rotate_left(went);
+    *used -= went as u64;
+    *standing = standing.saturating_sub(went as u64);
+    Ok(())
+}
+
+/// The right call, or [`unasked`] where a reason to refuse is overlooked.
+fn despite(
+    journal: &mut [u8],
+    (used, standing): (&mut u64, &mut u64),
+    k: u64,
+    is_overlooked: bool,
+) -> Result<(), Refusal> {
+    match is_overlooked {
+        true => unasked(journal, used, standing, k),
+        false => reference::forget(journal, used, standing, k),
+    }
+}
+
+/// Whether the lengths and the records of a journal are sound.
+fn is_sound(journal: &[u8], used: u64, standing: u64) -> bool {
+    reference::person(journal, used, standing, u64::MAX) == Err(Refusal::new(12))
+}
+
+/// The right call, but other edits go: so many as `other` says, by how many are to go and how many stand.
+fn forget_others(
+    journal: &mut [u8],
+    (used, standing): (&mut u64, &mut u64),
+    k: u64,
+    other: fn(u64, u64) -> u64,
+) -> Result<(), Refusal> {
+    let stand = lists::count(journal, *standing);
+    let (mut as_used, mut as_standing) = (*used, *standing);
+    reference::forget(&mut journal.to_vec(), &mut as_used, &mut as_standing, k)?;
+    reference::forget(journal, used, standing, other(k, stand))
+}
+
+/// A call that forgets edits and is right but for one thing.
+#[test]
+fn edits_that_are_forgotten_wrongly() {
+    let wrongs: [(&str, Forget); 23] = [
+        ("standing is not lowered", |journal, used, standing, k| {
+            let lowered = &mut { *standing };
+            reference::forget(journal, used, lowered, k)
+        }),
+        ("used is not lowered", |journal, used, standing, k| {
+            let lowered = &mut { *used };
+            reference::forget(journal, lowered, standing, k)
+        }),
+        ("waiting records go", |journal, used, standing, k| {
+            reference::forget(journal, used, standing, k)?;
+            journal[*standing as usize..*used as usize].fill(0);
+            *used = *standing;
+            Ok(())
+        }),
+        (
+            "waiting records do not move",
+            |journal, used, standing, k| {
+                let stood = *standing as usize;
+                let end = *used as usize;
+                reference::forget(journal, used, standing, k)?;
+                journal[*standing as usize..end].rotate_right(stood - *standing as usize);
+                Ok(())
+            },
+        ),
+        ("freed places stay", |journal, used, standing, k| {
+            let (before, end) = (journal.to_vec(), *used as usize);
+            reference::forget(journal, used, standing, k)?;
+            let freed = *used as usize..end;
+            journal[freed.clone()].copy_from_slice(&before[freed]);
+            Ok(())
+        }),
+        ("one byte less is freed", |journal, used, standing, k| {
+            let (before, end) = (journal.to_vec(), *used as usize);
+            reference::forget(journal, used, standing, k)?;
+            if (*used as usize) < end {
+                journal[end - 1] = before[end - 1];
+            }
+            Ok(())
+        }),
+        ("zeros behind the old used", |journal, used, standing, k| {
+            let end = *used as usize;
+            reference::forget(journal, used, standing, k)?;
+            journal[end..].fill(0);
+            Ok(())
+        }),
+        ("one more", |journal, used, standing, k| {
+            forget_others(journal, (used, standing), k, |k, stand| stand.min(k + 1))
+        }),
+        ("one fewer", |journal, used, standing, k| {
+            forget_others(journal, (used, standing), k, |k, _| k.saturating_sub(1))
+        }),
+        ("all that stand", |journal, used, standing, k| {
+            forget_others(journal, (used, standing), k, |_, stand| stand)
+        }),
+        (
+            "the newest, not the oldest",
+            |journal, used, standing, k| {
+                let (end, stood) = (*used as usize, *standing as usize);
+                let starts = lists::records(&journal[..stood.min(journal.len())]);
+                reference::forget(&mut journal.to_vec(), used, standing, k)?;
+                let start = starts[starts.len() - 1 - k as usize];
+                journal[start..stood].fill(0);
+                journal[start..end].rotate_left(stood - start);
+                (*used, *standing) = ((end - (stood - start)) as u64, start as u64);
+                Ok(())
+            },
+        ),
+        ("as many as there are", |journal, used, standing, k| {
+            let stand = lists::count(journal, *standing);
+            reference::forget(journal, used, standing, k.min(stand))
+        }),
+        ("waiting ones make it up", |journal, used, standing, k| {
+            let is_sound = is_sound(journal, *used, *standing);
+            despite(journal, (used, standing), k, is_sound)
+        }),
+        (
+            "a refusal changes a number",
+            |journal, used, standing, k| {
+                let told = reference::forget(journal, used, standing, k);
+                told.inspect_err(|_| *standing ^= 1)
+            },
+        ),
+        ("a refusal changes a byte", |journal, used, standing, k| {
+            let told = reference::forget(journal, used, standing, k);
+            told.inspect_err(|_| journal.iter_mut().take(1).for_each(|byte| *byte ^= 1))
+        }),
+        ("a number of 32 bits", |journal, used, standing, k| {
+            reference::forget(journal, used, standing, k & 0xFFFF_FFFF)
+        }),
+        ("12 before 14", |journal, used, standing, k| {
+            match k > lists::count(journal, *standing) {
+                true => Err(Refusal::new(12)),
+                false => reference::forget(journal, used, standing, k),
+            }
+        }),
+        (
+            "no question where none is to go",
+            |journal, used, standing, k| match k {
+                0 => Ok(()),
+                _ => reference::forget(journal, used, standing, k),
+            },
+        ),
+        ("used bytes over the room", |journal, used, standing, k| {
+            let most = &mut (*used).min(journal.len() as u64);
+            reference::forget(journal, most, standing, k)?;
+            *used = *most;
+            Ok(())
+        }),
+        ("used bytes over the bound", |journal, used, standing, k| {
+            let is_over = *used > JOURNAL_BOUND as u64 && *used <= journal.len() as u64;
+            despite(journal, (used, standing), k, is_over)
+        }),
+        (
+            "a standing number over the used one",
+            |journal, used, standing, k| {
+                let most = &mut (*standing).min(*used);
+                reference::forget(journal, used, most, k)?;
+                *standing = *most;
+                Ok(())
+            },
+        ),
+        (
+            "a standing number inside a record",
+            |journal, used, standing, k| {
+                let are_there = k <= lists::count(journal, *standing);
+                let is_between = *standing <= *used && is_sound(journal, *used, 0);
+                despite(journal, (used, standing), k, are_there && is_between)
+            },
+        ),
+        ("damaged records", |journal, used, standing, k| {
+            let do_fit = *standing <= *used && *used <= journal.len().min(JOURNAL_BOUND) as u64;
+            let is_damaged = do_fit && !is_sound(journal, *used, 0);
+            despite(journal, (used, standing), k, is_damaged)
+        }),
+    ];
+    assert!(!is_forget_noticed(reference::forget));
+    for (what, wrong) in wrongs {
+        assert!(is_forget_noticed(wrong), "{what}");
+    }
+}
+
+/// The reference's book, and beside it the calls that stand and wait in it and how many were forgotten.
+struct Kept {
+    book: Book,
+    /// A book of the same start that nothing was done with.
+    fresh: Book,
+    standing: Vec<Call>,
+    waiting: Vec<Call>,
+    forgotten: u64,
+}
+
+impl Kept {
+    fn of(list: &List) -> Kept {
+        let book = Book::new(list.file(), list.start.file.len(), list.start.journal.len());
+        Kept {
+            fresh: book.clone(),
+            book,
+            standing: Vec::new(),
+            waiting: Vec::new(),
+            forgotten: 0,
+        }
+    }
+
+    fn page(&mut self, call: &Call) -> Page {
+        let page = Page::of(call, &mut self.book);
+        match call.kind {
+            _ if page.told.is_err() => {}
+            Kind::Set | Kind::Remove => {
+                self.standing.push(call.clone());
+                self.waiting.clear();
+            }
+            Kind::Undo => self.waiting.extend(self.standing.pop()),
+            Kind::Redo => self.standing.extend(self.waiting.pop()),
+            Kind::Forget(k) => {
+                self.standing.drain(..k as usize);
+                self.forgotten += k;
+            }
+        }
+        page
+    }
+}
+
+/// Something wrong that is put into the page of a call.
+type WrongPage = fn(&Kept, &Call, &mut Page);
+
+/// Whether lists of calls show that a book with wrong pages is not the right one.
+fn is_book_noticed(wrong: WrongPage) -> bool {
+    let mut asker = Asker::new(1);
+    (1..=600).any(|seed| {
+        let mut random = Random::new(seed);
+        let file = files::sound(&mut random, 3, 4);
+        let list = lists::started(&file, 12, &mut random);
+        let mut kept = Kept::of(&list);
+        let mut book = |call: &Call| {
+            let mut page = kept.page(call);
+            wrong(&kept, call, &mut page);
+            Some(page)
+        };
+        asker.edits_in_book(&list, &proved, &mut book).is_err()
+    })
+}
+
+#[test]
+fn a_book_that_forgets_wrongly() {
+    let wrongs: [(&str, WrongPage); 4] = [
+        ("the start stays", |kept, _, page| {
+            let mut book = kept.fresh.clone();
+            for call in &kept.standing {
+                let _ = call.on_book(&mut book);
+            }
+            page.file = book.file();
+        }),
+        ("forgotten edits are undone", |kept, call, page| {
+            if call.kind == Kind::Undo && kept.forgotten > 0 {
+                page.told = Ok(());
+            }
+        }),
+        ("forgotten edits stand", |kept, call, page| {
+            if matches!(call.kind, Kind::Forget(1..)) && page.told.is_ok() {
+                page.standing += kept.forgotten;
+            }
+        }),
+        ("waiting edits are forgotten", |kept, call, page| {
+            if matches!(call.kind, Kind::Forget(1..)) && page.told.is_ok() {
+                page.persons.truncate(kept.standing.len());
+            }
+        }),
+    ];
+    assert!(!is_book_noticed(|_, _, _| {}));
+    for (what, wrong) in wrongs {
+        assert!(is_book_noticed(wrong), "{what}");
+    }
+}
+
+/// Whether journals show that a call that tells a person is not the right one.
+fn is_teller_noticed(teller: &dyn Fn(&persons::Given) -> u32) -> bool {
+    is_seen_in_journals(lists::person_in, |asker, case| match case {
+        Case::Person(question) => asker.person(&question, teller).is_err(),
+        _ => false,
     })
 }
 

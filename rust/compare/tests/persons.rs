@@ -2,7 +2,7 @@
 //! what 02's A9 says of persons and kinds of records over a list of calls, tried on the library. See `compare::run` for replaying.
 
 use compare::calls::{Asker, Case};
-use compare::edits::{with_buffers, Call, Kind};
+use compare::edits::{with_buffers, Kind};
 use compare::persons::{proved, Question};
 use compare::random::Random;
 use compare::run::{came_up, each, run, Outcomes};
@@ -25,20 +25,23 @@ const ALL: Outcomes = &[("person", &[0, 12, 14]), ("person by wrong lengths", &[
 fn journals_that_calls_left() {
     let outcomes: Outcomes = &[("person", &[0, 12])];
     let test = "journals_that_calls_left";
-    run(test, WORKED, outcomes, lists::person_of_worked);
+    let cases = lists::cases(lists::worked_journal, lists::person_in);
+    run(test, WORKED, outcomes, cases);
 }
 
 #[test]
 fn foreign_journals() {
     let outcomes: Outcomes = &[("person", &[0, 12]), ("person by wrong lengths", &[14])];
     let test = "foreign_journals";
-    run(test, FOREIGN, outcomes, lists::person_of_foreign);
+    let cases = lists::cases(lists::foreign_journal, lists::person_in);
+    run(test, FOREIGN, outcomes, cases);
 }
 
 #[test]
 fn damaged_journals_and_wrong_numbers() {
     let test = "damaged_journals_and_wrong_numbers";
-    run(test, DAMAGED, ALL, lists::person_of_damaged);
+    let cases = lists::cases(lists::damaged_journal, lists::person_in);
+    run(test, DAMAGED, ALL, cases);
 }
 
 #[test]
@@ -87,10 +90,6 @@ fn questions_with_a_record_less() {
     }
 }
 
-fn is_step(call: &Call) -> bool {
-    matches!(call.kind, Kind::Undo | Kind::Redo)
-}
-
 /// How often each came up.
 #[derive(Debug, Default)]
 struct Counts {
@@ -99,9 +98,11 @@ struct Counts {
     /// In journals with records of both kinds.
     mixed: u64,
     after_undo_or_redo: u64,
+    after_forgetting: u64,
 }
 
-/// The person told of a record is the one that was given to the call that made it; no undo or redo changes one.
+/// The person told of a record is the one that was given to the call that made it; no undo or redo changes one. Where edits are
+/// forgotten, the others keep theirs.
 #[test]
 fn the_person_told_is_the_one_given() {
     let mut counts = Counts::default();
@@ -127,6 +128,11 @@ fn the_person_told_is_the_one_given() {
                     }
                     Kind::Undo => standing -= 1,
                     Kind::Redo => standing += 1,
+                    Kind::Forget(k) => {
+                        given.drain(..k as usize);
+                        old_records = old_records.saturating_sub(k as usize);
+                        standing -= k as usize;
+                    }
                 }
                 for (n, person) in given.iter().enumerate() {
                     assert_eq!(buffers.person(n as u64), Ok(*person));
@@ -140,7 +146,11 @@ fn the_person_told_is_the_one_given() {
                 counts.waiting += told - standing as u64;
                 let is_mixed = 0 < old_records && old_records < given.len();
                 counts.mixed += told * u64::from(is_mixed);
-                counts.after_undo_or_redo += told * u64::from(accepted && is_step(call));
+                match call.kind {
+                    Kind::Undo | Kind::Redo if accepted => counts.after_undo_or_redo += told,
+                    Kind::Forget(1..) if accepted => counts.after_forgetting += told,
+                    _ => {}
+                }
             }
         });
     });
@@ -151,10 +161,12 @@ fn the_person_told_is_the_one_given() {
             waiting,
             mixed,
             after_undo_or_redo,
+            after_forgetting,
         } = counts;
         assert!(
             told > 100_000 && waiting > 10_000 && mixed > 10_000 && after_undo_or_redo > 10_000
         );
+        assert!(after_forgetting > 1_000);
     }
 }
 
@@ -187,10 +199,10 @@ fn calls_of_one_kind_leave_records_of_one_kind() {
                 |state: &mut State| with_buffers(state, |buffers| call.on_buffers(buffers)).is_ok();
             on_library(&mut state);
             by_persons += records_of_kind(4, &state);
-            if is_step(&call) {
-                old_steps += u64::from(on_library(&mut old_state));
-            } else {
+            if matches!(call.kind, Kind::Set | Kind::Remove) {
                 let _ = call.old().on_state(&mut old_state);
+            } else {
+                old_steps += u64::from(on_library(&mut old_state));
             }
             old += records_of_kind(1, &old_state);
         }

@@ -89,6 +89,9 @@ fn real_files_edited() {
         ("remove", &[0, 8, 17]),
         ("undo", &[0, 12]),
         ("redo", &[0, 12]),
+        ("forget some that stand", &[0]),
+        ("forget all that stand", &[0]),
+        ("forget more than there are", &[12]),
     ];
     let test = "real_files_edited";
     of_files(&real_files(), test, 20, 8, outcomes, |file, random| {

@@ -1,4 +1,5 @@
-//! Set, remove, undo and redo, and who made an edit: over two lent buffers, and over a document that owns them.
+//! Set, remove, undo and redo, who made an edit, and forgetting the oldest: over two lent buffers, and over a document that
+//! owns them.
 
 use crate::{ffi, told, Refusal, FILE_BOUND};
 
@@ -86,6 +87,15 @@ impl Buffers<'_> {
     /// The person of the journal's record of this number, from 0; the records that wait count too: 14, 12.
     pub fn person(&self, n: u64) -> Result<Person, Refusal> {
         person_of(self.journal, *self.numbers, n)
+    }
+
+    /// Forgets the oldest `k` edits that stand, so that their room in the journal serves later ones: 14, 12. All other records
+    /// are kept, those that wait too, and move to the start; the file is not touched.
+    pub fn forget(&mut self, k: u64) -> Result<(), Refusal> {
+        let Numbers { used, standing, .. } = &mut *self.numbers;
+        let (journal, room) = (self.journal.as_mut_ptr(), self.journal.len());
+        // SAFETY: the slice and the numbers are lent for this call only.
+        told(|place, _| unsafe { ffi::kveldrim_forget(journal, room, used, standing, k, place) })
     }
 }
 
@@ -197,6 +207,11 @@ impl Document {
     /// As [`Buffers::person`].
     pub fn person(&self, n: u64) -> Result<Person, Refusal> {
         person_of(&self.journal, self.numbers, n)
+    }
+
+    /// As [`Buffers::forget`].
+    pub fn forget(&mut self, k: u64) -> Result<(), Refusal> {
+        self.buffers().forget(k)
     }
 }
 

@@ -6,7 +6,7 @@
 pub use crate::expand::kveldrim_expand;
 
 /// The number of the C interface that is declared here; [`kveldrim_abi`] tells that of the library.
-pub const ABI: u32 = 2;
+pub const ABI: u32 = 3;
 
 /// A call that asks of a file: the file, its length, place, byte.
 pub type FileCall = unsafe extern "C" fn(*const u8, usize, *mut u64, *mut u64) -> u32;
@@ -64,6 +64,15 @@ extern "C" {
         n: u64,
         place: *mut u64,
         person: *mut u16,
+    ) -> u32;
+
+    pub fn kveldrim_forget(
+        journal: *mut u8,
+        journal_room: usize,
+        used: *mut u64,
+        standing: *mut u64,
+        k: u64,
+        place: *mut u64,
     ) -> u32;
 }
 

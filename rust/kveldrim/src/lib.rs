@@ -1,7 +1,7 @@
 //! Safe bindings over Kveldrim, the proved core for `.desktop` files (Desktop Entry Specification 1.5).
 //!
 //! A file is a slice of bytes; nothing is kept between calls. Every call gives its answer or a [`Refusal`], and a
-//! refusal changes no byte of an output. [`Document`] edits a file with undo, and tells who made an edit.
+//! refusal changes no byte of an output. [`Document`] edits a file with undo, tells who made an edit, and forgets the oldest.
 //!
 //! ```
 //! let file = b"[Desktop Entry]\nType=Application\nName=Read\nName[fr]=Lire\nExec=view %F\n";

@@ -76,7 +76,7 @@ kinds! {
     9 Escape "unknown or unfinished escape: a backslash may stand before s, n, t, r and backslash, in a list also before ;"
     10 Unfit "the text, list item or location holds bytes that are not allowed, or too many, or none"
     11 NoRoom "the result has no room in its buffer, or the edited file would be over 32,768 bytes"
-    12 Nothing "there is nothing to undo or redo, or no such record"
+    12 Nothing "there is nothing to undo or redo, no such record, or fewer edits stand than are to be forgotten"
     13 JournalFull "the record has no room in the journal"
     14 Damaged "a length goes beyond its buffer, or the journal or list is damaged"
     15 BadExec "Exec is badly written"

@@ -257,6 +257,77 @@ fn persons() {
     }
 }
 
+/// Records of both kinds are forgotten, the oldest first; those that wait are kept.
+#[test]
+fn forgetting() {
+    let mut document = Document::with_journal(T, OLD_LES, 0);
+    assert_eq!(document.forget(0), Ok(()));
+    assert_eq!(document.forget(1), refused(12, 0));
+    assert_eq!(document.redo(), Ok(()));
+    let set = |document: &mut Document, person, text: &[u8]| {
+        document.set(Person(person), DESKTOP_ENTRY, b"Name", text)
+    };
+    assert_eq!(set(&mut document, 1, b"L"), Ok(()));
+    assert_eq!(set(&mut document, 2, b"Le"), Ok(()));
+    assert_eq!(document.undo(), Ok(()));
+    let (file, journal) = (document.file().to_vec(), document.journal().to_vec());
+    assert_eq!(document.forget(3), refused(12, 0));
+    assert_eq!(document.forget(u64::MAX), refused(12, 0));
+    assert_eq!(
+        (document.journal(), document.standing()),
+        (&journal[..], 50)
+    );
+    assert_eq!(document.forget(1), Ok(()));
+    assert_eq!(
+        (document.journal(), document.standing()),
+        (&journal[26..], 24)
+    );
+    let told: Vec<_> = (0..3).map(|n| document.person(n)).collect();
+    assert_eq!(told, [Ok(Person(1)), Ok(Person(2)), refused(12, 0)]);
+    assert_eq!(document.file(), file);
+    assert_eq!((document.undo(), document.undo()), (Ok(()), refused(12, 0)));
+    assert_eq!((document.redo(), document.redo()), (Ok(()), Ok(())));
+    assert_eq!(document.forget(2), Ok(()));
+    assert_eq!((document.journal(), document.standing()), (&b""[..], 0));
+    assert_eq!(
+        (document.undo(), document.redo()),
+        (refused(12, 0), refused(12, 0))
+    );
+}
+
+/// What is freed becomes zeros, and a refusal changes nothing.
+#[test]
+fn forgetting_in_lent_buffers() {
+    let mut journal = [LES, OLD_LES, b"...."].concat();
+    let mut numbers = Numbers {
+        file_len: 9,
+        used: 54,
+        standing: 28,
+    };
+    let mut buffers = Buffers {
+        file: &mut [],
+        journal: &mut journal,
+        numbers: &mut numbers,
+    };
+    for (used, standing) in [(54, 27), (53, 28), (59, 28), (28, 54)] {
+        (buffers.numbers.used, buffers.numbers.standing) = (used, standing);
+        assert_eq!(buffers.forget(9), refused(14, 0), "{used} {standing}");
+        let left = (buffers.numbers.used, buffers.numbers.standing);
+        assert_eq!(left, (used, standing));
+    }
+    (buffers.numbers.used, buffers.numbers.standing) = (54, 28);
+    assert_eq!(buffers.forget(2), refused(12, 0));
+    assert_eq!(*buffers.journal, [LES, OLD_LES, b"...."].concat());
+    assert_eq!(buffers.forget(1), Ok(()));
+    assert_eq!(*buffers.journal, [OLD_LES, &[0; 28], b"...."].concat());
+    let left = Numbers {
+        file_len: 9,
+        used: 26,
+        standing: 0,
+    };
+    assert_eq!(numbers, left);
+}
+
 #[test]
 fn words_of_refusals() {
     let of = |number, place| Refusal {

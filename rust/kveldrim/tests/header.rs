@@ -175,12 +175,13 @@ fn the_words_of_each_number() {
 const LOOKUP: &str = "Example: a lookup";
 const EDIT: &str = "Example: an edit and its undo";
 const PERSONS: &str = "Example: who made each edit";
+const FULL: &str = "Example: an edit in a full journal";
 
 #[test]
 fn no_example_is_left_out() {
     let headings = HEADER.lines().filter_map(|line| line.strip_prefix(" * "));
     let examples = headings.filter(|heading| heading.starts_with("Example"));
-    assert_eq!(examples.collect::<Vec<_>>(), [LOOKUP, EDIT, PERSONS]);
+    assert_eq!(examples.collect::<Vec<_>>(), [LOOKUP, EDIT, PERSONS, FULL]);
 }
 
 /// The code that stands indented under a heading of the header's first comment.
@@ -210,11 +211,13 @@ fn the_example_of_a_lookup() {
     assert_eq!(told("[Desktop Entry]\n"), ("".into(), missing));
 }
 
+/// The code that tells what an edit left.
+const TELL: &str = "\nif (refused == 0) fwrite(file, 1, file_len, stdout);\n\
+    fprintf(stderr, \"%s, used %u, standing %u\", kveldrim_words(refused), (unsigned) used, (unsigned) standing);\n";
+
 #[test]
 fn the_example_of_an_edit() {
-    let tell = "\nif (refused == 0) fwrite(file, 1, file_len, stdout);\n\
-                fprintf(stderr, \"%s, used %u, standing %u\", kveldrim_words(refused), (unsigned) used, (unsigned) standing);\n";
-    let program = C.program("edit", &HEADERS, &(example(EDIT) + tell));
+    let program = C.program("edit", &HEADERS, &(example(EDIT) + TELL));
     // A record has 20 bytes, Lesen and Read.
     let undone = "accepted, used 29, standing 0";
     let refused = &format!("{}, used 0, standing 0", Kind::TooLong);
@@ -238,6 +241,28 @@ fn the_example_of_persons() {
     let told = |file: &str| run(&program, file.as_bytes()).0;
     assert_eq!(told(T), "edit 0: person 7\n");
     assert_eq!(told("[Desktop Entry"), "");
+}
+
+/// The first record has 20 bytes, Lesen and Book, the others 28: the journal has room for 2,340 of these.
+#[test]
+fn the_example_of_a_full_journal() {
+    for (edits, standing) in [
+        (2_340, 29 + 2_339 * 28),
+        (2_341, 2_340 * 28),
+        (4_000, 2_340 * 28),
+    ] {
+        let again = format!("\nfor (unsigned n = 0; n < {edits}; n++) {{\n");
+        let code = [&example(EDIT), &again, &example(FULL), "\n}", TELL].concat();
+        let program = C.program(&format!("full_{edits}"), &HEADERS, &code);
+        let told = format!("accepted, used {standing}, standing {standing}");
+        assert_eq!(
+            run(&program, T.as_bytes()),
+            (T.replace("Lesen", "Book"), told)
+        );
+    }
+    let program = C.program("full", &HEADERS, &(example(EDIT) + &example(FULL) + TELL));
+    let told = format!("{}, used 0, standing 0", Kind::First);
+    assert_eq!(run(&program, b"").1, told);
 }
 
 /// The record in the header is the one that its edit writes.

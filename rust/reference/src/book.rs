@@ -1,4 +1,5 @@
-//! Paper 01, "Edits and the journal", its last paragraph: the book of demand 3; paper 02, A9: the book of mixed journals.
+//! Paper 01, "Edits and the journal", its last paragraph: the book of demand 3; paper 02, A9: the book of mixed journals; A10:
+//! the book after edits are forgotten.
 
 use crate::edit::{edit, edit_within, Request};
 use crate::records::RecordKind;
@@ -65,6 +66,18 @@ impl Book {
             return Err(Refusal::new(12));
         }
         self.standing.push(self.waiting.remove(0));
+        Ok(())
+    }
+
+    /// "The third demand's starting bytes are those after the forgotten edits, in 01's book too, where only these leave the
+    /// standing list."
+    pub fn forget(&mut self, k: u64) -> Result<(), Refusal> {
+        if k > self.standing.len() as u64 {
+            return Err(Refusal::new(12));
+        }
+        let kept = self.standing.split_off(k as usize);
+        self.start = self.file();
+        self.standing = kept;
         Ok(())
     }
 

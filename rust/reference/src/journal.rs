@@ -1,4 +1,5 @@
-//! Paper 01, "Edits and the journal": set, remove, undo and redo over the lent buffers. Paper 02, A9: who made an edit.
+//! Paper 01, "Edits and the journal": set, remove, undo and redo over the lent buffers. Paper 02, A9: who made an edit; A10:
+//! forgetting the oldest edits.
 
 use crate::edit::{edit_within, replace, Request};
 use crate::file::check;
@@ -85,6 +86,34 @@ pub fn person(journal: &[u8], used: u64, standing: u64, n: u64) -> Result<u16, R
     let nth = usize::try_from(n).ok().and_then(|n| records.get(n));
     nth.map(|record| record.kind.person())
         .ok_or(Refusal::new(12))
+}
+
+/// "A call shall forget the oldest k standing edits"; "k above the number standing is 12".
+pub fn forget(
+    journal: &mut [u8],
+    used: &mut u64,
+    standing: &mut u64,
+    k: u64,
+) -> Result<(), Refusal> {
+    lengths_fit(journal, *used, *standing)?;
+    let records = sound_records(journal, *used, *standing)?;
+    let stands = |record: &&Record| record.end as u64 <= *standing;
+    if k > records.iter().filter(stands).count() as u64 {
+        return Err(Refusal::new(12));
+    }
+    // "Their records go, the others move to the front unchanged": these are written once more, one behind another.
+    let others = records[k as usize..].iter();
+    let others = others.flat_map(|record| {
+        write_journal_record(record.kind, record.place as u32, record.old, record.new)
+    });
+    let others: Vec<u8> = others.collect();
+    // "Freed places up to the old used length become zero."
+    let (front, freed) = journal[..*used as usize].split_at_mut(others.len());
+    front.copy_from_slice(&others);
+    freed.fill(0);
+    *used -= freed.len() as u64;
+    *standing -= freed.len() as u64;
+    Ok(())
 }
 
 /// The file and the records, after "lengths (14)", 1 to 6 of the file, and the "journal (14)".

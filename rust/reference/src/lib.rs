@@ -1,4 +1,4 @@
-//! A second, independent reading of paper 01, and of A6 and A9 of paper 02, in plain Rust, to compare answers with.
+//! A second, independent reading of paper 01, and of A6, A9 and A10 of paper 02, in plain Rust, to compare answers with.
 //! It follows the sentences of the papers one by one and does not try to be fast.
 
 #![forbid(unsafe_code)]
@@ -17,7 +17,7 @@ pub mod text;
 pub use book::Book;
 pub use exec::{expand, runs};
 pub use file::{check, complete, lookup};
-pub use journal::{person, redo, remove, set, undo, State};
+pub use journal::{forget, person, redo, remove, set, undo, State};
 pub use locale::{candidates, choose};
 pub use records::RecordKind;
 pub use refusal::Refusal;

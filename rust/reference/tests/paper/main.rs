@@ -1,8 +1,9 @@
-//! Tests of the reference: paper 01's examples, the readings, persons (A9), seeded random calls, and the report of the program
-//! of examples.
+//! Tests of the reference: paper 01's examples, the readings, persons (A9), forgetting (A10), seeded random calls, and the report
+//! of the program of examples.
 
 mod common;
 mod examples;
+mod forgetting;
 mod persons;
 mod random;
 mod readings;

@@ -4,8 +4,8 @@ use crate::common::*;
 use reference::lines::{read_line, Line};
 use reference::text::utf8_fault;
 use reference::{
-    check, choose, complete, expand, lookup, person, read_list, read_text, redo, remove, set, undo,
-    write_text, Book, RecordKind, Refusal, State,
+    check, choose, complete, expand, forget, lookup, person, read_list, read_text, redo, remove,
+    set, undo, write_text, Book, RecordKind, Refusal, State,
 };
 
 /// A xorshift generator.
@@ -76,12 +76,13 @@ const TEXTS: [&[u8]; 8] = [
     b"0123456789012345678901234567890",
 ];
 
-/// One call: a set, remove, undo or redo.
+/// One call: a set, remove, undo or redo, or so many edits forgotten.
 enum Call {
     Set(RecordKind, &'static [u8], &'static [u8], &'static [u8]),
     Remove(RecordKind, &'static [u8], &'static [u8]),
     Undo,
     Redo,
+    Forget(u64),
 }
 
 impl Call {
@@ -93,7 +94,7 @@ impl Call {
 
     /// A random call; what it records is of this kind.
     fn of_kind(random: &mut Random, kind: RecordKind) -> Call {
-        match random.below(10) {
+        match random.below(11) {
             0..=3 => Call::Set(
                 kind,
                 random.pick(&GROUPS),
@@ -102,7 +103,8 @@ impl Call {
             ),
             4..=5 => Call::Remove(kind, random.pick(&GROUPS), random.pick(&KEYS)),
             6..=7 => Call::Undo,
-            _ => Call::Redo,
+            8..=9 => Call::Redo,
+            _ => Call::Forget(*random.pick(&[&0, &1, &1, &1, &2, &3, &u64::MAX])),
         }
     }
 
@@ -113,6 +115,7 @@ impl Call {
             Call::Remove(kind, group, key) => remove(s, *kind, group, key),
             Call::Undo => undo(s),
             Call::Redo => redo(s),
+            Call::Forget(k) => forget(&mut s.journal, &mut s.used, &mut s.standing, *k),
         }
     }
 
@@ -123,12 +126,16 @@ impl Call {
             Call::Remove(kind, group, key) => book.remove(*kind, group, key),
             Call::Undo => book.undo(),
             Call::Redo => book.redo(),
+            Call::Forget(k) => book.forget(*k),
         }
     }
 }
 
-/// What each buffer holds after an accepted call: zeros where the file shrank, the rest unchanged.
+/// What each buffer holds after an accepted call: zeros where the file or the journal shrank, the rest unchanged.
 fn ask_buffers(before: &State, after: &State, call: &Call) {
+    if let Call::Forget(_) = call {
+        return ask_forgotten(before, after);
+    }
     let (old, new) = (before.file_len as usize, after.file_len as usize);
     assert!(new >= old || after.file[new..old].iter().all(|byte| *byte == 0));
     assert_eq!(before.file[old.max(new)..], after.file[old.max(new)..]);
@@ -140,11 +147,23 @@ fn ask_buffers(before: &State, after: &State, call: &Call) {
             assert_eq!(before.journal[..start], after.journal[..start]);
             assert_eq!(before.journal[end..], after.journal[end..]);
         }
-        Call::Undo | Call::Redo => {
+        _ => {
             assert_eq!(before.journal, after.journal);
             assert_eq!(before.used, after.used);
         }
     }
+}
+
+/// The same after edits were forgotten: the file as it was, the journal's other bytes at its front.
+fn ask_forgotten(before: &State, after: &State) {
+    let file = (&before.file, before.file_len);
+    assert_eq!(file, (&after.file, after.file_len));
+    let (used, left) = (before.used as usize, after.used as usize);
+    let went = used - left;
+    assert_eq!(went as u64, before.standing - after.standing);
+    assert_eq!(before.journal[went..used], after.journal[..left]);
+    assert!(after.journal[left..used].iter().all(|byte| *byte == 0));
+    assert_eq!(before.journal[used..], after.journal[used..]);
 }
 
 /// The persons of all records, and 12 for the number behind the last one.
@@ -159,8 +178,8 @@ fn persons_of(s: &State) -> Vec<u16> {
 #[test]
 fn journal_and_book_agree() {
     let mut seen = [0; 18];
-    let mut mixed = 0;
-    for seed in 1..=120 {
+    let (mut mixed, mut forgotten) = (0, 0);
+    for seed in 1..=240 {
         let mut random = Random::seeded(seed);
         let start = random.pick(&STARTS);
         let file_room = start.len() + random.below(120);
@@ -181,6 +200,8 @@ fn journal_and_book_agree() {
             assert_eq!(s.standing, book.standing());
             let persons = persons_of(&s);
             assert_eq!(persons, book.persons());
+            let is_forget = matches!(call, Call::Forget(_));
+            forgotten += usize::from(is_forget && s.used < before.used);
             let of_kind_one = s.journal.get(4) == Some(&1);
             mixed += usize::from(of_kind_one && persons.iter().any(|person| *person > 0));
             match answer {
@@ -194,7 +215,7 @@ fn journal_and_book_agree() {
             assert_eq!(check(file_of(&s)), Ok(()));
         }
     }
-    assert!(mixed > 500);
+    assert!(mixed > 500 && forgotten > 300);
     for number in [6, 7, 8, 10, 11, 12, 13, 17] {
         assert!(seen[number] > 0, "refusal {number} never came");
     }
@@ -225,6 +246,7 @@ fn undo_after_an_edit_restores() {
                 }
                 Call::Undo => assert_eq!(redo(&mut back), Ok(())),
                 Call::Redo => assert_eq!(undo(&mut back), Ok(())),
+                Call::Forget(_) => continue,
             }
             edits += 1;
             assert_eq!(file_of(&back), file_of(&before));
@@ -294,13 +316,16 @@ fn hostile_states_are_answered() {
             Call::Remove(SEVEN, GROUPS[0], KEYS[1]),
             Call::Undo,
             Call::Redo,
+            Call::Forget(random.next() % 3),
         ] {
             let mut after = s.clone();
             match call.over_state(&mut after) {
                 Ok(()) => {
                     accepted += 1;
                     ask_buffers(&s, &after, &call);
-                    assert_eq!(check(file_of(&after)), Ok(()));
+                    if !matches!(call, Call::Forget(_)) {
+                        assert_eq!(check(file_of(&after)), Ok(()));
+                    }
                 }
                 Err(refusal) => {
                     seen[refusal.number as usize] += 1;
@@ -355,6 +380,7 @@ fn any_bytes_are_answered() {
         let _ = book.remove(SEVEN, b"A", b"a");
         let _ = book.undo();
         let _ = book.redo();
+        let _ = book.forget(1);
         let _ = (book.file(), book.standing());
     }
     assert!(written > 1_000 && expanded_runs > 1_000);

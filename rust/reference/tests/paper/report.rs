@@ -2,7 +2,7 @@
 
 use crate::common::{records, with_header, T};
 use reference::{
-    check, choose, complete, expand, lookup, person, read_list, read_text, set, write_text,
+    check, choose, complete, expand, forget, lookup, person, read_list, read_text, set, write_text,
     RecordKind, Refusal, State,
 };
 
@@ -107,13 +107,15 @@ fn reads_list(raw: &[u8], room: usize) -> String {
     writes("read_list", read_list, digits, raw, room)
 }
 
+/// The two numbers of a journal.
+fn numbers(used: u64, standing: u64) -> String {
+    format!("used {used}, standing {standing}")
+}
+
 /// The words of an edit's answer, with both buffers.
 fn edited(state: &State, answer: Result<(), Refusal>) -> String {
-    let numbers = format!(
-        "{} bytes, used {}, standing {}",
-        state.file_len, state.used, state.standing
-    );
-    let answer = told(answer, |()| numbers.clone());
+    let numbers = numbers(state.used, state.standing);
+    let answer = told(answer, |()| format!("{} bytes, {numbers}", state.file_len));
     let (file, journal) = (quote(&state.file), digits(&state.journal));
     format!("{answer}, {file}, {journal}")
 }
@@ -161,8 +163,17 @@ fn asks_person(journal: &[u8], used: u64, standing: u64, n: u64) -> String {
     format!("person of record {n} in {used} bytes, of which stand {standing}: {told}")
 }
 
-/// A journal of 01's set of Name in T, and an edit by a person behind it.
-fn persons() -> Vec<String> {
+/// Some edits forgotten in a copy of a journal.
+fn forgets(journal: &[u8], mut used: u64, mut standing: u64, k: u64) -> String {
+    let mut journal = journal.to_vec();
+    let asked = format!("forget {k} of the edits in {used} bytes, of which stand {standing}");
+    let answer = forget(&mut journal, &mut used, &mut standing, k);
+    let told = told(answer, |()| numbers(used, standing));
+    format!("{asked}: {told}, {}", digits(&journal))
+}
+
+/// A journal of 01's set of Name in T, and an edit by a person behind it; who made both, and how they are forgotten.
+fn journals() -> Vec<String> {
     let mut old = lent(T, 71, b"", 26);
     let name = set(&mut old, RecordKind::One, b"Desktop Entry", b"Name", b"Les");
     assert_eq!(name, Ok(()));
@@ -179,8 +190,10 @@ fn persons() -> Vec<String> {
         (56, 54, 0),
     ];
     let asked = asked.map(|(used, standing, n)| asks_person(&state.journal, used, standing, n));
+    let forgotten = [(54, 0), (26, 1), (26, 2), (27, 1), (54, 2)];
+    let forgotten = forgotten.map(|(standing, k)| forgets(&state.journal, 54, standing, k));
     let set = format!(r#"set "Exec" to "v" by 7 behind a record of kind 1: {told}"#);
-    [&[set][..], &asked].concat()
+    [&[set][..], &asked, &forgotten].concat()
 }
 
 /// A run of a file's Exec for a locale at a location, with a list of files, into so many bytes.
@@ -211,7 +224,7 @@ fn edits() -> Vec<String> {
         sets_both(icon, url),
         sets_both(url, icon),
     ];
-    [&[29, 28, 27].map(sets_name)[..], &orders, &persons()].concat()
+    [&[29, 28, 27].map(sets_name)[..], &orders, &journals()].concat()
 }
 
 fn commands() -> Vec<String> {
