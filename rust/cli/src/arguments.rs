@@ -3,7 +3,7 @@
 use std::ffi::OsString;
 use std::time::Duration;
 
-use clap::{Args, Parser, Subcommand, ValueHint};
+use clap::{ArgGroup, Args, Parser, Subcommand, ValueHint};
 use clap_complete::Shell;
 
 /// Checks .desktop files, reads, edits and merges them, and expands their commands
@@ -49,6 +49,8 @@ pub enum Command {
     Redo(Step),
     /// Tells the edits that stand, those that wait for redo, and who made them
     Log(Log),
+    /// Forgets the oldest edits: they can no longer be undone, and the journal has room for new ones
+    Forget(Forget),
     /// Makes one file of two changed copies of it
     Merge(Merge),
     /// Writes a file's command, with the files to open put in; starts nothing
@@ -256,6 +258,31 @@ pub struct Log {
     pub file: OsString,
     #[command(flatten)]
     pub persons: PersonsFile,
+    #[command(flatten)]
+    pub json: Json,
+}
+
+#[derive(Args)]
+#[command(
+    group(ArgGroup::new("which").args(["count", "keep"]).required(true)),
+    override_usage = "kveldrim forget [OPTIONS] <FILE> <N|--keep <N>>",
+    after_help = "\
+The file stays as it is, and so do the edits that wait for redo. Each edit that is forgotten is told, and how many are left. \
+Nothing brings a forgotten edit back."
+)]
+pub struct Forget {
+    /// The file
+    pub file: OsString,
+    /// Forgets the oldest N edits that stand
+    #[arg(value_name = "N")]
+    pub count: Option<u64>,
+    /// Forgets all edits that stand but the newest N
+    #[arg(long, value_name = "N")]
+    pub keep: Option<u64>,
+    #[command(flatten)]
+    pub persons: PersonsFile,
+    #[command(flatten)]
+    pub manner: Manner,
     #[command(flatten)]
     pub json: Json,
 }

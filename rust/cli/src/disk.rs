@@ -80,6 +80,11 @@ fn denied(error: io::Error, words: &str) -> io::Error {
     }
 }
 
+/// The error, in other words if nothing may be made or removed in the folder.
+fn in_folder(error: io::Error) -> io::Error {
+    denied(error, "you may not write in its folder")
+}
+
 pub fn not_plain(what: &str) -> io::Error {
     io::Error::other(format!("{what} is not a plain file"))
 }
@@ -181,27 +186,12 @@ pub struct Replacement<'a> {
 /// Puts new bytes and a new journal in place of the old ones. After an error the old bytes and their journal are there. The
 /// open file is the locked one; the new file is locked too before it is there.
 pub fn replace(names: &Names, open: &File, with: &Replacement) -> io::Result<()> {
-    if !may_replace(geteuid().as_raw(), &open.metadata()?, &names.folder)? {
-        let words =
-            "its folder is sticky: only the owners of the file and of the folder may replace it";
-        return Err(io::Error::other(words));
-    }
-    let like = Attributes::of(open)?;
+    let like = replaceable(names, open)?;
     let aside = with.old_journal.filter(|_| with.aside);
     let aside = aside.map(|bytes| put_aside(names, bytes, &like));
     let aside = aside.transpose()?;
     let new = Written::new(names.new_file(), with.new, Some(&like))?;
-    let put_journal = |bytes: Option<&[u8]>| match bytes {
-        Some(bytes) => {
-            let journal = Written::new(names.new_journal(), bytes, Some(&like))?;
-            journal.rename(names, names.journal()).map(drop)
-        }
-        None => {
-            fs::remove_file(names.journal())?;
-            step();
-            Ok(())
-        }
-    };
+    let put_journal = |bytes: Option<&[u8]>| put_journal(names, bytes, &like, || Ok(()));
     if with.journal.is_some() {
         put_journal(with.journal)?;
     }
@@ -224,6 +214,60 @@ pub fn replace(names: &Names, open: &File, with: &Replacement) -> io::Result<()>
         aside.keep();
     }
     Ok(())
+}
+
+/// Puts another journal in place of the one that is there, or takes that away. The file stays as it is: it is the open one, is
+/// locked and has these bytes.
+pub fn replace_journal(
+    names: &Names,
+    open: &File,
+    bytes: &[u8],
+    journal: Option<&[u8]>,
+) -> io::Result<()> {
+    let like = replaceable(names, open)?;
+    for path in [names.new_file(), names.new_journal()] {
+        remove_left_over(&path)?;
+    }
+    put_journal(names, journal, &like, || unchanged(names, open, bytes))
+}
+
+/// What a file has besides its bytes, if who runs the command may replace it and its journal. These may be of two owners, as
+/// who forgets edits of another's file has the journal then.
+fn replaceable(names: &Names, open: &File) -> io::Result<Attributes> {
+    let journal = names.journal();
+    let found = fs::symlink_metadata(&journal).ok();
+    let file = (open.metadata()?, "the file".into());
+    let journal = found.map(|found| (found, format!("its journal {}", name(&journal))));
+    for (found, what) in [file].into_iter().chain(journal) {
+        if !may_replace(geteuid().as_raw(), &found, &names.folder)? {
+            return Err(io::Error::other(format!(
+                "its folder is sticky: only the owners of {what} and of the folder may replace it"
+            )));
+        }
+    }
+    Attributes::of(open)
+}
+
+/// Writes a journal aside and puts it in its place, or takes away the one that is there. In the last moment before, `may` is
+/// asked.
+fn put_journal(
+    names: &Names,
+    bytes: Option<&[u8]>,
+    like: &Attributes,
+    may: impl FnOnce() -> io::Result<()>,
+) -> io::Result<()> {
+    let new = bytes.map(|bytes| Written::new(names.new_journal(), bytes, Some(like)));
+    let new = new.transpose()?;
+    may()?;
+    match new {
+        Some(new) => new.rename(names, names.journal()).map(drop),
+        None => {
+            fs::remove_file(names.journal()).map_err(in_folder)?;
+            step();
+            sync_folder(names);
+            Ok(())
+        }
+    }
 }
 
 /// Makes a file that is not there yet, with all its bytes at once and the rights that new files have. Something that has got its
@@ -289,7 +333,7 @@ impl Written {
             options.mode(0o600);
         }
         let open = options.open(&path);
-        let open = open.map_err(|error| denied(error, "you may not write in its folder"))?;
+        let open = open.map_err(in_folder)?;
         let mut written = Written {
             open,
             path: Some(path),
@@ -330,10 +374,15 @@ impl Written {
             self.path = None;
         }
         step();
-        let _ = File::open(&names.folder).and_then(|folder| folder.sync_all());
-        step();
+        sync_folder(names);
         Ok(self)
     }
+}
+
+/// The names in the folder are on disk, as far as the file system can do so.
+fn sync_folder(names: &Names) {
+    let _ = File::open(&names.folder).and_then(|folder| folder.sync_all());
+    step();
 }
 
 impl Drop for Written {
@@ -357,7 +406,7 @@ fn remove_left_over(path: &Path) -> io::Result<()> {
         opened => Some(opened?),
     };
     open.as_ref().map_or(Ok(()), take_lock)?;
-    fs::remove_file(path)
+    fs::remove_file(path).map_err(|error| denied(error, &format!("you may not remove {what}")))
 }
 
 #[cfg(test)]

@@ -1,4 +1,4 @@
-//! `kveldrim set`, `remove`, `undo`, `redo` and `log`: edits of a file with its journal.
+//! `kveldrim set`, `remove`, `undo`, `redo`, `log` and `forget`: edits of a file with its journal.
 
 use std::cell::Cell;
 use std::ffi::OsStr;
@@ -6,9 +6,10 @@ use std::os::unix::ffi::OsStrExt;
 use std::process::ExitCode;
 
 use kveldrim::{Document, Edit, Edits, Kind, Person, Refusal};
+use serde_json::json;
 
-use crate::arguments::{Change, Key, Log, Manner, Remove, Set, Step};
-use crate::log::{edits, Done, Recorded, Tense, Told};
+use crate::arguments::{Change, Forget, Json, Key, Log, Manner, Remove, Set, Step};
+use crate::log::{edits, Done, Recorded, State, Tense, Told};
 use crate::persons::{given_person, Persons};
 use crate::report::Trouble;
 use crate::store::Store;
@@ -29,10 +30,10 @@ pub fn remove(remove: &Remove) -> ExitCode {
 
 pub fn undo(step: &Step) -> ExitCode {
     let call = |document: &mut Document| {
-        let standing = document.journal()[..document.standing() as usize].to_vec();
+        let records = standing(document).to_vec();
         let before = document.file().to_vec();
         document.undo()?;
-        let (number, edit) = last(&standing);
+        let (number, edit) = last(&records);
         let turned = Edit {
             old: edit.new,
             new: edit.old,
@@ -83,16 +84,17 @@ fn change(
     let who = given_person(&change.who.person, name)?;
     let mut persons = Persons::of(&change.who.persons, file, name)?.without_fault()?;
     let person = persons.find(who, name)?;
+    let edit = |document: &mut Document| call(document, person, group, &key);
     let made = make(
         file,
         change.discard_journal,
         &change.manner,
         &persons,
-        |document| {
-            let call = |document: &mut Document| call(document, person, group, &key);
-            Ok(vec![made(document, "by", call)?])
+        |document| Ok(vec![made(document, "by", edit)?]),
+        |document, refusal| match refusal.kind {
+            Kind::JournalFull => Trouble::full(file, to_forget(document, edit)),
+            _ => Trouble::of_change(file, group, &key, document.file(), refusal),
         },
-        |bytes, refusal| Trouble::of_change(file, group, &key, bytes, refusal),
     )?;
     if !change.no_warn {
         persons.warn(change.manner.dry_run.then_some(person));
@@ -100,6 +102,18 @@ fn change(
         made.warn(file, group, &key);
     }
     Ok(())
+}
+
+/// How many of the oldest edits have to be forgotten, so that a full journal has room for an edit. Once all are, it has: old and
+/// new bytes of a record are each a part of a file of at most 32,768 bytes, less its first header, and the record's head is short.
+fn to_forget(document: &Document, edit: impl Fn(&mut Document) -> Result<(), Refusal>) -> usize {
+    let is_full = |count: &u64| {
+        let mut copy = document.clone();
+        copy.forget(*count).and_then(|()| edit(&mut copy)).is_err()
+    };
+    let edits = Edits::new(standing(document)).count() as u64;
+    // The more are forgotten, the more room there is.
+    (0..edits).collect::<Vec<_>>().partition_point(is_full)
 }
 
 /// So many undos or redos, all or none. Where it is known who edits, it is told which of the edits are another person's; no fault
@@ -127,7 +141,9 @@ fn steps(
             };
             (0..step.steps).map(one).collect()
         },
-        |bytes, refusal| Trouble::of_step(&step.file, bytes, refusal, name, count.get()),
+        |document, refusal| {
+            Trouble::of_step(&step.file, document.file(), refusal, name, count.get())
+        },
     )?;
     let person = found.unwrap_or_else(|trouble| {
         let about = "edits of others are not told as such";
@@ -158,13 +174,17 @@ fn made(
 ) -> Result<Done, Refusal> {
     let before = document.file().to_vec();
     call(document)?;
-    let standing = &document.journal()[..document.standing() as usize];
-    let (number, edit) = last(standing);
+    let (number, edit) = last(standing(document));
     Ok(Done {
         told: Told::of(&before, &edit),
         act,
         person: document.person(number)?,
     })
+}
+
+/// The records that stand.
+fn standing(document: &Document) -> &[u8] {
+    &document.journal()[..document.standing() as usize]
 }
 
 /// The last edit of records that an accepted call has read or written, and its number, from 0.
@@ -180,28 +200,21 @@ struct Made {
     done: Vec<Done>,
 }
 
-/// Makes calls on a file and its journal, and saves both if all are accepted. A dry run writes what would change, and takes
-/// neither lock nor rights.
+/// Makes calls on a file and its journal, and saves both if all are accepted. A dry run writes what would change.
 fn make(
     file: &OsStr,
     discard: bool,
     manner: &Manner,
     persons: &Persons,
     calls: impl FnOnce(&mut Document) -> Result<Vec<Done>, Refusal>,
-    refused: impl FnOnce(&[u8], Refusal) -> Trouble,
+    refused: impl FnOnce(&Document, Refusal) -> Trouble,
 ) -> Result<Made, Trouble> {
-    let store = match manner.dry_run {
-        true => Store::look(file, discard)?,
-        false => Store::edit(file, discard, manner.wait.wait)?,
-    };
+    let store = open(file, discard, manner)?;
     let mut document = store.document();
     let before = document.file().to_vec();
-    let done = calls(&mut document).map_err(|refusal| match refusal.kind {
-        Kind::Damaged => store.damaged(),
-        Kind::Nothing => store
-            .left_behind()
-            .unwrap_or_else(|| refused(document.file(), refusal)),
-        _ => refused(document.file(), refusal),
+    let done = calls(&mut document).map_err(|refusal| {
+        let refused = || refused(&document, refusal);
+        trouble(&store, refusal, refused)
     })?;
     match manner.dry_run {
         true => {
@@ -215,6 +228,23 @@ fn make(
         after: document.file().to_vec(),
         done,
     })
+}
+
+/// A file for calls; a dry run takes neither lock nor rights.
+fn open(file: &OsStr, discard: bool, manner: &Manner) -> Result<Store, Trouble> {
+    match manner.dry_run {
+        true => Store::look(file, discard),
+        false => Store::edit(file, discard, manner.wait.wait),
+    }
+}
+
+/// What a refused call means, where it may be about the journal on disk, or else what is said of it.
+fn trouble(store: &Store, refusal: Refusal, said: impl FnOnce() -> Trouble) -> Trouble {
+    match refusal.kind {
+        Kind::Damaged => store.damaged(),
+        Kind::Nothing => store.left_behind().unwrap_or_else(said),
+        _ => said(),
+    }
 }
 
 /// A journal lies beside a file, so standard input has none.
@@ -264,10 +294,11 @@ fn is_unread(key: &[u8]) -> bool {
 }
 
 pub fn log(log: &Log) -> ExitCode {
-    match lines(log) {
-        Ok(lines) => streams::write(&lines),
-        Err(trouble) => trouble.tell(),
-    }
+    status(lines(log).and_then(|lines| streams::put(&lines)))
+}
+
+pub fn forget(asked: &Forget) -> ExitCode {
+    status(forgotten(asked))
 }
 
 /// The edits of a file's journal, a line or an object for each.
@@ -278,19 +309,80 @@ fn lines(log: &Log) -> Result<Vec<u8>, Trouble> {
     if let Some(trouble) = store.left_behind() {
         trouble.tell();
     }
-    let document = store.document();
-    let bytes = document.file().to_vec();
-    let edits = edits(document).map_err(|refusal| match refusal.kind {
-        Kind::Damaged => store.damaged(),
-        _ => Trouble::of_file(&log.file, &bytes, refusal),
-    })?;
-    persons.warn(edits.iter().map(|edit| edit.done.person));
-    Ok(match log.json.json {
-        true => {
-            let object = |edit| json::line(&Recorded::object(edit, &persons));
-            edits.iter().flat_map(object).collect()
-        }
-        false if edits.is_empty() => b"no edit is recorded\n".to_vec(),
-        false => edits.iter().flat_map(|edit| edit.line(&persons)).collect(),
+    let edits = recorded(&log.file, &store)?;
+    Ok(match edits.is_empty() && !log.json.json {
+        true => b"no edit is recorded\n".to_vec(),
+        false => told(&edits, &mut persons, &log.json),
     })
+}
+
+/// Takes the oldest edits from a file's journal. Tells each of them, and how many are left.
+fn forgotten(asked: &Forget) -> Result<(), Trouble> {
+    let Forget { file, manner, .. } = asked;
+    named(file)?;
+    let mut persons = Persons::of(&asked.persons, file, "forget")?.without_fault()?;
+    let store = open(file, false, manner)?;
+    let mut edits = recorded(file, &store)?;
+    let standing = edits.iter().filter(|edit| edit.state == State::Stands);
+    let standing = standing.count();
+    let count = match asked.keep {
+        Some(keep) => (standing as u64).saturating_sub(keep),
+        None => asked.count.unwrap_or_default(),
+    };
+    let mut document = store.document();
+    document.forget(count).map_err(|refusal| {
+        let said = || Trouble::of_step(file, document.file(), refusal, "forget", standing);
+        trouble(&store, refusal, said)
+    })?;
+    let is_saved = count > 0 && !manner.dry_run;
+    if is_saved {
+        store.save_journal(&document)?;
+    }
+    if let Some(trouble) = store.left_behind() {
+        trouble.tell();
+    }
+    let (tense, when) = match manner.dry_run {
+        true => (Tense::Conditional, "then"),
+        false => (Tense::Past, "now"),
+    };
+    let when = match count {
+        0 => "nothing to forget;",
+        _ => when,
+    };
+    let left = edits.split_off(count as usize).len();
+    for edit in &mut edits {
+        edit.state = State::Forgotten(tense);
+    }
+    let stands = standing - edits.len();
+    let waits = left - stands;
+    let numbers = match asked.json.json {
+        true => json::line(&json!({ "forgotten": count, "stands": stands, "waits": waits })),
+        false => format!("{when} standing: {stands}, waiting: {waits}\n").into_bytes(),
+    };
+    let lines = told(&edits, &mut persons, &asked.json);
+    streams::put(&[lines, numbers].concat()).map_err(|trouble| match is_saved {
+        // Who runs it again would forget more.
+        true => trouble.although("the edits are forgotten all the same"),
+        false => trouble,
+    })
+}
+
+/// Every edit of a file's journal.
+fn recorded(file: &OsStr, store: &Store) -> Result<Vec<Recorded>, Trouble> {
+    let document = store.document();
+    edits(document).map_err(|refusal| {
+        trouble(store, refusal, || {
+            Trouble::of_file(file, store.bytes(), refusal)
+        })
+    })
+}
+
+/// Edits with their states, a line or an object for each.
+fn told(edits: &[Recorded], persons: &mut Persons, json: &Json) -> Vec<u8> {
+    persons.warn(edits.iter().map(|edit| edit.done.person));
+    let line = |edit: &Recorded| match json.json {
+        true => json::line(&edit.object(persons)),
+        false => edit.line(persons),
+    };
+    edits.iter().flat_map(line).collect()
 }

@@ -1,6 +1,6 @@
 //! The bytes of a journal's file: one file with its records, or two while a call is being written (docs/JOURNAL.md).
 
-use kveldrim::{FILE_BOUND, JOURNAL_BOUND};
+use kveldrim::{Document, FILE_BOUND, JOURNAL_BOUND};
 use sha2::{Digest, Sha256};
 
 /// A file and the journal that belongs to it.
@@ -18,6 +18,15 @@ impl Pair {
             file,
             records: Vec::new(),
             standing: 0,
+        }
+    }
+
+    /// A file and its journal as calls have left them.
+    pub fn of(document: &Document) -> Pair {
+        Pair {
+            file: document.file().to_vec(),
+            records: document.journal().to_vec(),
+            standing: document.standing(),
         }
     }
 }

@@ -12,6 +12,7 @@ use std::process::{self, Command, ExitCode};
 use std::sync::atomic::{AtomicU32, Ordering};
 use std::time::Duration;
 
+use kveldrim::Edits;
 use nix::unistd::geteuid;
 
 use crate::attributes::Attributes;
@@ -145,12 +146,7 @@ fn found(file: &Path) -> Pair {
         trouble.tell();
         panic!("no matching pair is found");
     });
-    let document = store.document();
-    Pair {
-        file: document.file().to_vec(),
-        records: document.journal().to_vec(),
-        standing: document.standing(),
-    }
+    Pair::of(&store.document())
 }
 
 /// The file `t`, and two changed copies of it.
@@ -212,8 +208,9 @@ fn killed_at_each_step(setup: &[&[&str]], words: &[&str], least: u32) {
     assert!(steps >= least, "{steps}");
 }
 
-/// Three files are written aside in eight steps each, and renamed in two.
-const THREE_FILES: u32 = 30;
+/// A file is written aside in eight steps, and renamed in two.
+const ONE_FILE: u32 = 10;
+const THREE_FILES: u32 = 3 * ONE_FILE;
 
 /// Whether every journal's records of before are somewhere in the folder.
 fn keeps_journal(before: &Folder, now: &Folder) {
@@ -240,6 +237,8 @@ const EDITS: &[&[&str]] = &[
     &["undo"],
     &["undo"],
 ];
+
+const FORGET: &[&str] = &["forget", "1"];
 
 #[test]
 fn the_first_edit() {
@@ -281,10 +280,51 @@ fn a_new_journal() {
     );
 }
 
+#[test]
+fn a_forget() {
+    killed_at_each_step(EDITS, FORGET, ONE_FILE);
+}
+
+/// The journal goes, and the folder is synced.
+#[test]
+fn a_forget_of_all_edits() {
+    killed_at_each_step(&EDITS[..1], FORGET, 2);
+}
+
+/// Where a killed edit left a journal of two pairs, the one of the file that is there is kept.
+#[test]
+fn a_forget_after_a_killed_edit() {
+    let mut of_two = 0;
+    for step in 1.. {
+        let place = Place::with(&three_files());
+        for words in &EDITS[..2] {
+            assert!(place.run(words, None));
+        }
+        let done = place.run(EDITS[2], Some(step));
+        let pairs = || {
+            let journal = fs::read(place.0.join(".t.kveldrim-journal")).unwrap();
+            journal::read(&journal).unwrap()
+        };
+        of_two += u32::from(pairs().len() == 2);
+        let Pair { file, records, .. } = found(&place.file());
+        assert!(place.run(FORGET, None));
+        let left = found(&place.file());
+        assert_eq!(left.file, file);
+        let [before, after] = [&records, &left.records].map(|records| Edits::new(records).count());
+        assert_eq!(after + 1, before);
+        assert!(records.ends_with(&left.records));
+        assert_eq!(pairs(), [left]);
+        if done {
+            break;
+        }
+    }
+    assert!(of_two > 0);
+}
+
 /// A merge into the file, without a journal: one file is written aside and renamed.
 #[test]
 fn a_merge() {
-    killed_at_each_step(&[], MERGE, 10);
+    killed_at_each_step(&[], MERGE, ONE_FILE);
 }
 
 /// A copy of the journal, the file and one journal more are written aside; at the end there is no journal.
@@ -359,6 +399,15 @@ fn a_replacement_during_an_edit() {
     changed_at_each_step(&EDITS[..1], &words, REPLACE, edited, BEFORE_AN_EDIT);
 }
 
+/// The journal is written aside.
+#[test]
+fn a_change_during_a_forget() {
+    let setup = [&["set", "Name", "Lesung"][..], EDITS[0]];
+    let edited = &three_files()[OsStr::new("mine")];
+    changed_at_each_step(&setup, FORGET, CHANGE, OTHER, 8);
+    changed_at_each_step(&setup, FORGET, REPLACE, edited, 8);
+}
+
 /// The file that is to be replaced is BASE too: what is merged is what was locked.
 #[test]
 fn a_change_during_a_merge() {
@@ -369,7 +418,14 @@ fn a_change_during_a_merge() {
 
 /// Whatever the folder would give to new files, and at whatever step a run is killed: nobody but who edits has a right to a
 /// file beside the edited one that he does not have to that.
-fn no_more_rights(owner: u32, mode: u32, list: &str) {
+fn no_more_rights(
+    setup: &[&[&str]],
+    words: &[&str],
+    least: u32,
+    owner: u32,
+    mode: u32,
+    list: &str,
+) {
     for step in 1.. {
         let file = b"[Desktop Entry]\nName=Lesen\n";
         let place = Place::new(file);
@@ -381,7 +437,10 @@ fn no_more_rights(owner: u32, mode: u32, list: &str) {
         setfacl(&["-d", "-m", "u:8:rwx,g:9:rwx,o::rwx"], &place.0);
         let access = |path: &Path| Attributes::of(&File::open(path).unwrap()).unwrap().access;
         let expected = access(&place.file());
-        let done = place.run(&["set", "Name", "Les"], Some(step));
+        for words in setup {
+            assert!(place.run(words, None));
+        }
+        let done = place.run(words, Some(step));
         for name in place.content().keys() {
             let path = place.0.join(name);
             let found = fs::metadata(&path).unwrap();
@@ -395,7 +454,7 @@ fn no_more_rights(owner: u32, mode: u32, list: &str) {
         }
         if done {
             assert_eq!(access(&place.0.join(".t.kveldrim-journal")), expected);
-            assert!(step > 30, "{step}");
+            assert!(step > least, "{step}");
             break;
         }
     }
@@ -404,16 +463,20 @@ fn no_more_rights(owner: u32, mode: u32, list: &str) {
 #[test]
 fn no_more_rights_at_any_step() {
     let own = geteuid().as_raw();
-    no_more_rights(own, 0o640, "");
-    no_more_rights(own, 0o640, "u:7:r,g:9:rw");
+    for list in ["", "u:7:r,g:9:rw"] {
+        no_more_rights(&[], EDITS[0], THREE_FILES, own, 0o640, list);
+        no_more_rights(&EDITS[2..4], FORGET, ONE_FILE, own, 0o640, list);
+    }
 }
 
 #[test]
 fn no_more_rights_for_an_owner_as_root() {
     let own = geteuid().as_raw();
     assert_eq!(own, 0, "this test gives a file away: run it as root");
-    no_more_rights(5, 0o440, "");
-    no_more_rights(5, 0o440, "u:7:r");
+    for list in ["", "u:7:r"] {
+        no_more_rights(&[], EDITS[0], THREE_FILES, 5, 0o440, list);
+        no_more_rights(&EDITS[2..4], FORGET, ONE_FILE, 5, 0o440, list);
+    }
 }
 
 fn setfacl(words: &[&str], path: &Path) {
@@ -422,17 +485,20 @@ fn setfacl(words: &[&str], path: &Path) {
     assert!(set.success(), "{words:?}");
 }
 
-/// The old file and then the new one are locked from the first step to the last.
+/// The old file and then the new one are locked from the first step to the last; where edits are forgotten, the one file is.
 #[test]
 fn locked_at_every_step() {
     let place = Place::new(b"[Desktop Entry]\n");
-    let mut command = place.command(&["set", "Name", "Les"]);
-    let outcome = command.env(LOCKED, place.file()).output().unwrap();
-    let told = String::from_utf8_lossy(&outcome.stderr);
-    assert!(outcome.status.success(), "{told}");
-    let done = disk::lock(&place.file(), Duration::ZERO);
-    assert!(done.is_ok());
-    assert_eq!(found(&place.file()).file, b"[Desktop Entry]\nName=Les\n");
+    for words in [EDITS[2], EDITS[3], FORGET, FORGET] {
+        let mut command = place.command(words);
+        let outcome = command.env(LOCKED, place.file()).output().unwrap();
+        let told = String::from_utf8_lossy(&outcome.stderr);
+        assert!(outcome.status.success(), "{told}");
+        let done = disk::lock(&place.file(), Duration::ZERO);
+        assert!(done.is_ok());
+    }
+    let file = b"[Desktop Entry]\nIcon=books\n".to_vec();
+    assert_eq!(found(&place.file()), Pair::new(file));
 }
 
 /// Files that a killed run left half written are no matter.

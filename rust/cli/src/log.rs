@@ -23,14 +23,33 @@ pub struct Done {
     pub person: Person,
 }
 
-/// An edit of a journal, and whether it stands.
+/// An edit of a journal, and its state.
 pub struct Recorded {
-    stands: bool,
+    pub state: State,
     pub done: Done,
 }
 
-/// When an edit is made.
-#[derive(Clone, Copy)]
+/// What is or becomes of a recorded edit.
+#[derive(Clone, Copy, PartialEq, Eq)]
+pub enum State {
+    Stands,
+    Waits,
+    Forgotten(Tense),
+}
+
+impl State {
+    fn words(self) -> &'static str {
+        match self {
+            State::Stands => "stands",
+            State::Waits => "waits",
+            State::Forgotten(Tense::Past) => "forgotten",
+            State::Forgotten(Tense::Conditional) => "would be forgotten",
+        }
+    }
+}
+
+/// Whether something is done, or would be.
+#[derive(Clone, Copy, PartialEq, Eq)]
 pub enum Tense {
     Past,
     Conditional,
@@ -46,14 +65,17 @@ pub fn edits(mut document: Document) -> Result<Vec<Recorded>, Refusal> {
     }
     let mut recorded = Vec::new();
     for (number, edit) in (0..).zip(Edits::new(&journal)) {
-        let stands = document.standing() < standing;
+        let state = match document.standing() < standing {
+            true => State::Stands,
+            false => State::Waits,
+        };
         let done = Done {
             told: Told::of(document.file(), &edit),
             act: "by",
             person: document.person(number)?,
         };
         document.redo()?;
-        recorded.push(Recorded { stands, done });
+        recorded.push(Recorded { state, done });
     }
     Ok(recorded)
 }
@@ -61,8 +83,8 @@ pub fn edits(mut document: Document) -> Result<Vec<Recorded>, Refusal> {
 impl Recorded {
     /// The edit in a line of words.
     pub fn line(&self, persons: &Persons) -> Vec<u8> {
-        let state: &[u8] = if self.stands { b"stands: " } else { b"waits: " };
-        [state, &self.done.line(Tense::Past, persons), b"\n"].concat()
+        let done = self.done.line(Tense::Past, persons);
+        [self.state.words().as_bytes(), b": ", &done, b"\n"].concat()
     }
 
     /// The edit as an object (docs/JSON.md).
@@ -78,7 +100,7 @@ impl Recorded {
         json!({
             "person": person.0,
             "name": persons.name(*person),
-            "state": if self.stands { "stands" } else { "waits" },
+            "state": self.state.words(),
             "group": text(group),
             "key": text(key),
             "old": value(old),

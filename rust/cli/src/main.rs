@@ -60,6 +60,7 @@ fn run(words: impl Iterator<Item = OsString>) -> ExitCode {
         Command::Undo(step) => editing::undo(step),
         Command::Redo(step) => editing::redo(step),
         Command::Log(log) => editing::log(log),
+        Command::Forget(forget) => editing::forget(forget),
         Command::Merge(merge) => merge::merge(merge),
         Command::Expand(expand) => expand::expand(expand),
         Command::Completions { shell } => {

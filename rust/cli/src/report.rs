@@ -99,6 +99,12 @@ impl Trouble {
         }
     }
 
+    /// The same, with what was done all the same.
+    pub fn although(self, done: &str) -> Trouble {
+        let words = [&self.words[..], b"; ", done.as_bytes()].concat();
+        Trouble { words, ..self }
+    }
+
     /// A warning about a file, or about the command itself.
     pub fn warning_of(about: &OsStr, words: impl Into<Vec<u8>>) -> Trouble {
         Trouble::new(about, words, 0).warned()
@@ -160,16 +166,9 @@ impl Trouble {
     /// A file without a journal has just the bytes that a journal of no file belongs to.
     pub fn left_behind(file: &OsStr, journal: &Path, own: &Path) -> Trouble {
         let [from, to] = [journal, own].map(|path| path.as_os_str().as_bytes());
-        let way_back = match [from, to].map(escaped) == [from, to] {
-            true => [
-                &b"mv -n "[..],
-                &quoted(from),
-                b" ",
-                &quoted(to),
-                b" gives it back",
-            ]
-            .concat(),
-            false => b"docs/JOURNAL.md tells how to rename it".to_vec(),
+        let way_back = match [from, to].map(word) {
+            [Some(from), Some(to)] => [b"mv -n ", &from[..], b" ", &to, b" gives it back"].concat(),
+            _ => b"docs/JOURNAL.md tells how to rename it".to_vec(),
         };
         let words = [
             b"it has no journal, but seems to have been renamed: the journal ",
@@ -333,7 +332,6 @@ impl Trouble {
             Kind::Missing => [b"there is no group ", &escaped(group)[..]].concat(),
             Kind::Unfit => UNFIT.into(),
             Kind::NoRoom => "the file would be over 32,768 bytes".into(),
-            Kind::JournalFull => format!("its journal has no room for this edit{DISCARD}").into(),
             Kind::NoPlain if refusal.place == 0 => [
                 &escaped(key)[..],
                 b" needs the same key without a [locale] in its group; set that first",
@@ -349,13 +347,41 @@ impl Trouble {
         Trouble::new(file, words, REFUSED)
     }
 
-    /// A refusal of an undo or a redo, after so many that were accepted.
-    pub fn of_step(file: &OsStr, bytes: &[u8], refusal: Refusal, step: &str, done: u32) -> Trouble {
-        let words = match (refusal.kind, done) {
+    /// The journal has no room for an edit until so many of the oldest are forgotten.
+    pub fn full(file: &OsStr, count: usize) -> Trouble {
+        let name = file.as_bytes();
+        let end: &[u8] = match name.starts_with(b"-") {
+            true => b"-- ",
+            false => b"",
+        };
+        let name = word(name).unwrap_or(b"FILE".to_vec());
+        let oldest = match count {
+            1 => "the oldest edit".into(),
+            _ => format!("the {count} oldest edits"),
+        };
+        let way_out = format!(" {count} makes room: {oldest} can then no longer be undone)");
+        let words = [
+            b"its journal has no room for this edit (kveldrim forget ",
+            end,
+            &name,
+            way_out.as_bytes(),
+        ];
+        Trouble::new(file, words.concat(), REFUSED)
+    }
+
+    /// A refusal of an undo, a redo or a forget, for which there are so many edits.
+    pub fn of_step(
+        file: &OsStr,
+        bytes: &[u8],
+        refusal: Refusal,
+        step: &str,
+        there: usize,
+    ) -> Trouble {
+        let words = match (refusal.kind, there) {
             (Kind::Nothing, 0) => format!("there is nothing to {step}"),
             (Kind::Nothing, 1) => format!("there is only one edit to {step}; nothing was changed"),
             (Kind::Nothing, _) => {
-                format!("there are only {done} edits to {step}; nothing was changed")
+                format!("there are only {there} edits to {step}; nothing was changed")
             }
             _ => return Trouble::of_file(file, bytes, refusal),
         };
@@ -440,6 +466,11 @@ pub fn shown(name: &OsStr) -> Vec<u8> {
         true => b"''".to_vec(),
         false => escaped(name.as_bytes()),
     }
+}
+
+/// A name as a word of a shell, if a message shows it as it is.
+fn word(name: &[u8]) -> Option<Vec<u8>> {
+    (escaped(name) == name).then(|| quoted(name))
 }
 
 fn escaped(text: &[u8]) -> Vec<u8> {

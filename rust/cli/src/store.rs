@@ -118,12 +118,16 @@ impl Store {
 
     /// Puts the edited file and its journal on disk: both, or neither.
     pub fn save(&self, document: &Document) -> Result<(), Trouble> {
-        let after = Pair {
-            file: document.file().to_vec(),
-            records: document.journal().to_vec(),
-            standing: document.standing(),
-        };
+        let after = Pair::of(document);
         self.replace(&after, true, Some(&journal::write(&[&after])))
+    }
+
+    /// Puts the journal on disk that calls have left, beside the unchanged file. One without a record goes.
+    pub fn save_journal(&self, document: &Document) -> Result<(), Trouble> {
+        let after = Pair::of(document);
+        let journal = (!after.records.is_empty()).then(|| journal::write(&[&after]));
+        disk::replace_journal(&self.names, &self.open, &after.file, journal.as_deref())
+            .map_err(|error| uneditable(&self.given, &error))
     }
 
     /// The bytes of the file, as they were read.

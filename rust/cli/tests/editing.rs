@@ -11,16 +11,16 @@ use std::process::Command;
 use std::thread;
 use std::time::Duration;
 
-use common::{tool, Folder, Shared, JOURNAL, T};
+use common::{earlier_journals, tool, with_digest, Folder, Shared, JOURNAL, T};
 use rustix::fs::{flock, FlockOperation};
-use sha2::{Digest, Sha256};
 
 /// Each command that needs the journal.
-const COMMANDS: [&[&str]; 5] = [
+const COMMANDS: [&[&str]; 6] = [
     &["set", "t", "Name", "x"],
     &["remove", "t", "Exec"],
     &["undo", "t"],
     &["redo", "t"],
+    &["forget", "t", "1"],
     &["log", "t"],
 ];
 
@@ -29,27 +29,9 @@ fn folder() -> Folder {
 }
 
 impl Folder {
-    /// Runs words that are refused, and tells so; the folder is as before.
-    fn refuses(&self, status: i32, words: &[&str], told: &str) {
-        let before = self.all();
-        self.words(words).tells(status, &[told]);
-        assert_eq!(self.all(), before);
-    }
-
-    /// Everything in the folder.
-    fn all(&self) -> Vec<(String, Option<Vec<u8>>)> {
-        let names = self.names().into_iter();
-        let bytes = |name: &str| fs::read(self.0.join(name)).ok();
-        names.map(|name| (name.clone(), bytes(&name))).collect()
-    }
-
     fn holds(&self, file: &str) {
         let found = String::from_utf8(self.read("t")).unwrap();
         assert_eq!(found, file);
-    }
-
-    fn logs(&self, lines: &str) {
-        self.run(&[b"log", b"t"]).writes(lines.as_bytes());
     }
 }
 
@@ -183,11 +165,7 @@ fn a_full_journal() {
         folder.does(&["set", "t", "Name", text]);
     }
     let words = ["set", "t", "Name", &a];
-    folder.refuses(
-        1,
-        &words,
-        "t: its journal has no room for this edit (set, remove and merge",
-    );
+    folder.refuses(1, &words, "t: its journal has no room for this edit (");
     let full = folder.read(JOURNAL);
     folder.does(&["set", "t", "Name", &a, "--discard-journal"]);
     assert_eq!(folder.read(".t.kveldrim-journal-1"), full);
@@ -254,6 +232,7 @@ fn a_damaged_journal() {
         for words in [
             &["set", "t", "Name", "x"][..],
             &["undo", "t"],
+            &["forget", "t", "0"],
             &["log", "t"],
         ] {
             folder.refuses(1, words, DAMAGED);
@@ -262,8 +241,9 @@ fn a_damaged_journal() {
     // A record that does not fit the file.
     let place = [&sound[..record + 8], &[1], &sound[record + 9..]].concat();
     let folder = folder.with(JOURNAL.as_bytes(), &place);
-    folder.refuses(1, &["undo", "t"], DAMAGED);
-    folder.refuses(1, &["log", "t"], DAMAGED);
+    for words in [&["undo", "t"][..], &["forget", "t", "1"], &["log", "t"]] {
+        folder.refuses(1, words, DAMAGED);
+    }
     folder.does(&["set", "t", "Name", "x", "--discard-journal"]);
     assert_eq!(folder.read(".t.kveldrim-journal-1"), place);
     folder.does(&["undo", "t"]);
@@ -301,21 +281,10 @@ fn a_changed_bit_in_the_journal() {
     assert_eq!(folder.read("t"), T);
 }
 
-/// The bytes of a journal with the digest that follows them.
-fn with_digest(bytes: &[u8]) -> Vec<u8> {
-    [bytes, &Sha256::digest(bytes)].concat()
-}
-
-/// Journals as earlier versions wrote them, with an edit that stands and one that waits: their edits are there, and they go on
-/// with those of persons.
+/// Journals of earlier versions: their edits are there, and they go on with those of persons.
 #[test]
 fn journals_of_earlier_versions() {
-    let pairs = b"\x01\0\0\0\x1b\0\0\0\x37\0\0\0\x1a\0\0\0[Desktop Entry]\nName=Lesen\n\
-        \x1a\0\0\0\x01\0\x15\0\0\0\x03\0\0\0\x05\0\0\0LesLesen\
-        \x1d\0\0\0\x01\0\x15\0\0\0\x05\0\0\0\x06\0\0\0LesenLesung";
-    let first = [b"kveldrim\x01\0\0\0", &pairs[..]].concat();
-    let second = with_digest(&[b"kveldrim\x02\0\0\0", &pairs[..]].concat());
-    for journal in [first, second] {
+    for journal in earlier_journals() {
         let folder = Folder::new()
             .with(b"t", b"[Desktop Entry]\nName=Lesen\n")
             .with(JOURNAL.as_bytes(), &journal);
@@ -451,11 +420,15 @@ fn many_editors_at_once() {
 #[test]
 fn files_that_another_editor_writes() {
     for name in [".t.kveldrim-new", ".t.kveldrim-journal-new"] {
-        let folder = folder().with(name.as_bytes(), b"[Desk");
+        let folder = folder();
+        folder.does(&["set", "t", "Name", "Les"]);
+        let folder = folder.with(name.as_bytes(), b"[Desk");
         let other = File::open(folder.0.join(name)).unwrap();
         flock(&other, FlockOperation::LockExclusive).unwrap();
         let told = "t: another kveldrim is at work on this file just now; nothing was changed";
-        folder.refuses(75, &["set", "t", "Name", "x"], told);
+        for words in [COMMANDS[0], &["forget", "t", "1"]] {
+            folder.refuses(75, words, told);
+        }
         flock(&other, FlockOperation::Unlock).unwrap();
         folder.does(&["set", "t", "Name", "x"]);
         assert_eq!(folder.names(), [JOURNAL, "t"]);
@@ -472,6 +445,7 @@ fn rights_stay_and_links_are_followed() {
     folder.does(&["set", "t", "Name", "Les"]);
     folder.does(&["set", "real/f", "Name", "Lesen und Schreiben"]);
     folder.does(&["undo", "t"]);
+    assert_eq!(folder.words(&["forget", "t", "1"]).status, 0);
     assert!(folder.0.join("t").is_symlink());
     assert_eq!(folder.names(), ["real", "t"]);
     for name in ["real/f", "real/.f.kveldrim-journal"] {
@@ -503,7 +477,11 @@ fn a_folder_or_a_file_that_cannot_be_written_as_root() {
     let before = folder.all();
     let refuses = |why: &str| {
         let told = format!("t: cannot be edited: {why}");
-        for words in [&[&b"set"[..], b"t", b"Name", b"x"][..], &[b"undo", b"t"]] {
+        for words in [
+            &[&b"set"[..], b"t", b"Name", b"x"][..],
+            &[b"undo", b"t"],
+            &[b"forget", b"t", b"1"],
+        ] {
             run(words).tells(2, &[&told]);
             assert_eq!(folder.all(), before);
         }
@@ -532,7 +510,7 @@ fn a_journal_that_is_not_put_aside() {
     let folder = folder().with(JOURNAL.as_bytes(), &[b'x'; 300_000]);
     let set = ["set", "t", "Name", "x", "--discard-journal"];
     let told = "t: cannot be read: .t.kveldrim-journal beside it is too long for a journal";
-    for words in [&set[..], &["undo", "t"], &["log", "t"]] {
+    for words in COMMANDS.iter().copied().chain([&set[..]]) {
         folder.refuses(2, words, told);
     }
     let folder = folder.with(JOURNAL.as_bytes(), b"x");
@@ -584,14 +562,15 @@ fn everything(folder: &Folder) -> Vec<(String, String)> {
 /// Where a name beside the file is taken by something that is not a plain file, nothing is changed.
 #[test]
 fn names_that_are_taken() {
-    let set: &[&str] = &["set", "t", "Name", "x"];
     for kind in KINDS {
         for name in [".t.kveldrim-new", ".t.kveldrim-journal-new"] {
             let folder = taken(name, kind);
             let before = everything(&folder);
             let told = format!("t: cannot be edited: {name} beside it is not a plain file");
-            folder.run_in_time(set).tells(2, &[&told]);
-            assert_eq!(everything(&folder), before, "{name} is {kind}");
+            for words in [COMMANDS[0], &["forget", "t", "1"]] {
+                folder.run_in_time(words).tells(2, &[&told]);
+                assert_eq!(everything(&folder), before, "{name} is {kind}");
+            }
         }
         let folder = taken(JOURNAL, kind);
         let before = everything(&folder);

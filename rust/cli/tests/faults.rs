@@ -450,6 +450,7 @@ fn the_examples_of_the_document() {
         assert_eq!(folder.words(words).status, 0);
     }
     write(folder.run(&[b"log", b"--json", b"edited.desktop"]));
+    write(folder.run(&[b"forget", b"--json", b"edited.desktop", b"1"]));
     write(folder.run(&[b"expand", b"--json", b"good.desktop", b"a b.txt"]));
     write(folder.run(&[b"expand", b"--json", b"--runs", b"each.desktop", b"a", b"b"]));
     let latin = objects(&latin.run(&[b"check", b"--json", b"M\xFCller"]));

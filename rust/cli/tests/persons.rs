@@ -20,6 +20,9 @@ const EDITS: [&[&str]; 4] = [
     &["redo", "t"],
 ];
 
+/// Each command that takes no person, but tells whose edits there are.
+const TELLERS: [&[&str]; 2] = [&["log", "t"], &["forget", "t", "1"]];
+
 /// What an undo or redo warns of where it is not known who runs it.
 const NOT_TOLD: &str = "warning: edits of others are not told as such";
 
@@ -129,9 +132,9 @@ fn empty_options() {
     let before = folder.both();
     let who = ("--person", "KVELDRIM_PERSON", "a number or a name");
     let names = ("--persons", "KVELDRIM_PERSONS", "a file");
-    for edit in EDITS.into_iter().chain([&["log", "t"][..]]) {
+    for edit in EDITS.into_iter().chain(TELLERS) {
         for (option, variable, needed) in [who, names] {
-            if edit[0] == "log" && option == "--person" {
+            if TELLERS.contains(&edit) && option == "--person" {
                 continue;
             }
             let words = [edit, &[option, ""]].concat();
@@ -247,7 +250,7 @@ fn where_the_file_of_persons_is() {
     tells(log("link", &[]), "\"A\" (person 1)");
 }
 
-/// A file of persons that is named must be there for a set, a remove and a log; nothing is waited for.
+/// A file of persons that is named must be there for a set, a remove, a log and a forget; nothing is waited for.
 #[test]
 fn a_named_file_of_persons_that_cannot_be_read() {
     let folder = folder();
@@ -263,7 +266,7 @@ fn a_named_file_of_persons_that_cannot_be_read() {
         let run = |words: &[&str], more: &[&str]| {
             folder.run_in_time(&[words, &["--persons", name], more].concat())
         };
-        for words in [EDITS[0], EDITS[1], &["log", "t"]] {
+        for words in [EDITS[0], EDITS[1]].into_iter().chain(TELLERS) {
             run(words, &[]).tells(2, &[&told]);
         }
         let without_names = format!("{name}: warning: persons are told without names: {why}");
@@ -319,6 +322,10 @@ fn is_faulty(folder: &Folder, fault: &str) {
     assert_eq!(folder.both(), before);
     let log = folder.run_in_time(&["log", "t"]);
     log.logs(["person 7", "person 1"], &[&warning]);
+    let forget = folder.run_in_time(&["forget", "t", "1", "--dry-run"]);
+    let edit = "Name in Desktop Entry: \"Lesen\" became \"a\", by person 7";
+    let lines = format!("would be forgotten: {edit}\nthen standing: 0, waiting: 1\n");
+    forget.tells_and_writes(0, &[&warning], lines.as_bytes());
     let set = ["set", "t", "Name", "b", "--person", "1"];
     let dry = |words: &[&str], told: &[&str]| {
         let line = b"Name in Desktop Entry: \"a\" would become \"b\", by person 1\n";

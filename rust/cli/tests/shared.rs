@@ -51,6 +51,7 @@ impl Folder {
 }
 
 const SET: [&[u8]; 4] = [b"set", b"t", b"Name", b"Les"];
+const FORGET: [&[u8]; 3] = [b"forget", b"t", b"1"];
 
 /// Two members of a group edit a file in turn, in a folder that gives its group to new files.
 #[test]
@@ -81,6 +82,39 @@ fn members_of_a_group_edit_in_turn_as_root() {
         assert_eq!(folder.access("t"), (apt.0, group, mode));
         assert_eq!(folder.read("t"), T);
     }
+}
+
+/// Who forgets edits has the journal then, as after an edit, and the file stays its owner's. The journal has the rights that the
+/// file has by now.
+#[test]
+fn forgetting_as_root() {
+    let shared = Shared::new();
+    let games = || shared.command(GAMES.0, GAMES.1, None);
+    let man = || shared.command(MAN.0, MAN.1, Some(GAMES.1));
+    let folder = owned(GAMES, 0o644, 0o2775);
+    for _ in 0..3 {
+        folder.run_by(games(), &SET).writes(b"");
+    }
+    folder.mode("t", 0o660);
+    folder.set_list("t", &["-m", "u:7:r"]);
+    let list = folder.list("t");
+    let left =
+        "forgotten: Name in Desktop Entry: \"Lesen\" became \"Les\"\nnow standing: 2, waiting: 0\n";
+    folder.run_by(man(), &FORGET).writes(left.as_bytes());
+    assert_eq!(folder.access("t"), (GAMES.0, GAMES.1, 0o660));
+    assert_eq!(folder.access(JOURNAL), (MAN.0, GAMES.1, 0o660));
+    assert_eq!(
+        (folder.list("t"), folder.list(JOURNAL)),
+        (list.clone(), list)
+    );
+    folder.run_by(games(), &[b"undo", b"t"]).writes(b"");
+    // The rights of this one cannot be those of a journal of another owner.
+    folder.mode("t", 0o760);
+    let before = folder.both();
+    let told = "t: cannot be edited: its owner cannot be kept, and with another one the edit would take from games the \
+        right to run it";
+    folder.run_by(man(), &FORGET).tells(2, &[told]);
+    assert_eq!(folder.both(), before);
 }
 
 /// Who is in a group for this run alone counts as its member.
@@ -287,9 +321,34 @@ fn a_sticky_folder_as_root() {
     // A set of the value that is there would change no byte; it is refused all the same.
     let (edited, journal) = (folder.read("t"), folder.read(JOURNAL));
     folder.run_by(man(), &SET).tells(2, &[told]);
+    folder.run_by(man(), &FORGET).tells(2, &[told]);
     assert_eq!((folder.read("t"), folder.read(JOURNAL)), (edited, journal));
     folder.run_by(games(), &[b"undo", b"t"]).writes(b"");
     assert_eq!(folder.read("t"), T);
+}
+
+/// Where the owner of a sticky folder forgets edits of another's file, the journal is his then. Who owns the file is told why he
+/// cannot edit it.
+#[test]
+fn a_sticky_folder_with_a_journal_of_its_owner_as_root() {
+    let shared = Shared::new();
+    let games = || shared.command(GAMES.0, GAMES.1, None);
+    let folder = owned(GAMES, 0o664, 0o1777);
+    for _ in 0..2 {
+        folder.run_by(games(), &SET).writes(b"");
+    }
+    chown(&folder.0, Some(MAN.0), None).unwrap();
+    let man = shared.command(MAN.0, MAN.1, Some(GAMES.1));
+    assert_eq!(folder.run_by(man, &FORGET).status, 0);
+    let owners = ["t", JOURNAL].map(|name| folder.access(name).0);
+    assert_eq!(owners, [GAMES.0, MAN.0]);
+    let before = folder.all();
+    let told = "t: cannot be edited: its folder is sticky: only the owners of its journal .t.kveldrim-journal and of the \
+        folder may replace it";
+    for words in [&SET[..], &[b"undo", b"t"], &FORGET] {
+        folder.run_by(games(), words).tells(2, &[told]);
+        assert_eq!(folder.all(), before);
+    }
 }
 
 /// Somebody who may put files into a sticky folder, but may not replace one there, cannot do so by a journal.
@@ -306,7 +365,7 @@ fn a_journal_of_somebody_else_as_root() {
     let journal = folder.0.join(JOURNAL);
     chown(&journal, Some(MAN.0), Some(MAN.1)).unwrap();
     let told = "t: cannot be read: its journal .t.kveldrim-journal was made by somebody who may not replace the file";
-    for words in [&[&b"undo"[..], b"t"][..], &[b"log", b"t"], &SET] {
+    for words in [&[&b"undo"[..], b"t"][..], &[b"log", b"t"], &SET, &FORGET] {
         folder.run_by(games(), words).tells(2, &[told]);
         assert_eq!(folder.read("t"), own.read("t"));
     }
@@ -399,6 +458,26 @@ fn what_another_user_left_behind_as_root() {
     let man = shared.command(MAN.0, MAN.1, Some(GAMES.1));
     folder.run_by(man, &SET).writes(b"");
     assert_eq!(folder.names(), [JOURNAL, "t"]);
+}
+
+/// In a sticky folder anybody can take the names of the files that are written aside: which one is in the way is told.
+#[test]
+fn names_that_somebody_else_has_as_root() {
+    let shared = Shared::new();
+    let games = || shared.command(GAMES.0, GAMES.1, None);
+    for name in [".t.kveldrim-new", ".t.kveldrim-journal-new"] {
+        let folder = owned(GAMES, 0o644, 0o1777);
+        folder.run_by(games(), &SET).writes(b"");
+        chown(&folder.0, Some(0), Some(0)).unwrap();
+        let folder = folder.with(name.as_bytes(), b"");
+        chown(folder.0.join(name), Some(MAN.0), Some(MAN.1)).unwrap();
+        let before = folder.all();
+        let told = format!("t: cannot be edited: you may not remove {name} beside it");
+        for words in [&SET[..], &FORGET] {
+            folder.run_by(games(), words).tells(2, &[&told]);
+            assert_eq!(folder.all(), before);
+        }
+    }
 }
 
 /// A reader beside an editor disturbs nobody, and is not disturbed.

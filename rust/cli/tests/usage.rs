@@ -7,8 +7,9 @@ use std::process::{Command, Stdio};
 
 use common::{Folder, T};
 
-const COMMANDS: [&str; 11] = [
-    "check", "complete", "get", "list", "set", "remove", "undo", "redo", "log", "merge", "expand",
+const COMMANDS: [&str; 12] = [
+    "check", "complete", "get", "list", "set", "remove", "undo", "redo", "log", "forget", "merge",
+    "expand",
 ];
 
 fn run(words: &[&str]) -> (i32, String, String) {
@@ -50,6 +51,7 @@ fn each_command_has_help() {
         (&["set", "--help"], "Who edits: a number"),
         (&["undo", "--help"], "Who you are: a number"),
         (&["redo", "--help"], "Who you are: a number"),
+        (&["forget", "--help"], "<FILE> <N|--keep <N>>"),
     ] {
         assert!(help(words).contains(part), "{}", help(words));
     }
@@ -90,7 +92,7 @@ fn completions() {
         let (status, script, _) = run(&["completions", shell]);
         assert_eq!(status, 0);
         assert!(script.contains(part), "{shell}");
-        for word in COMMANDS.into_iter().chain(["dry-run", "persons"]) {
+        for word in COMMANDS.into_iter().chain(["dry-run", "persons", "keep"]) {
             assert!(script.contains(word), "{shell} {word}");
         }
     }
@@ -134,6 +136,17 @@ fn bad_usage_is_2() {
         &[b"redo", b"t", b"--group", b"x"],
         &[b"log", b"t", b"--discard-journal"],
         &[b"log", b"t", b"--person", b"1"],
+        &[b"forget", b"t"],
+        &[b"forget", b"t", b"x"],
+        &[b"forget", b"t", b"-1"],
+        &[b"forget", b"t", b"18446744073709551616"],
+        &[b"forget", b"t", b"0", b"1"],
+        &[b"forget", b"t", b"0", b"--keep", b"1"],
+        &[b"forget", b"t", b"--keep"],
+        &[b"forget", b"t", b"--keep=-1"],
+        &[b"forget", b"t", b"0", b"--person", b"1"],
+        &[b"forget", b"t", b"0", b"--discard-journal"],
+        &[b"forget", b"-", b"0"],
         &[b"set", b"t", b"Name", b"a", b"--person", b"Anna"],
         &[b"set", b"t", b"Name", b"a", b"--person=-1"],
         &[b"undo", b"t", b"--persons"],

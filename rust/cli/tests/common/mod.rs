@@ -11,11 +11,28 @@ use std::path::{Path, PathBuf};
 use std::process::{self, Command};
 use std::sync::atomic::{AtomicU32, Ordering};
 
+use sha2::{Digest, Sha256};
+
 pub const T: &[u8] =
     b"[Desktop Entry]\nType=Application\nName=Lesen\nName[fr]=Lire\nExec=view %F\n";
 
 /// The journal of a file `t`.
 pub const JOURNAL: &str = ".t.kveldrim-journal";
+
+/// The bytes of a journal with the digest that follows them.
+pub fn with_digest(bytes: &[u8]) -> Vec<u8> {
+    [bytes, &Sha256::digest(bytes)].concat()
+}
+
+/// Journals as the versions 1 and 2 wrote them, of a file with the Name Lesen: an edit stands and one waits.
+pub fn earlier_journals() -> [Vec<u8>; 2] {
+    let pairs = b"\x01\0\0\0\x1b\0\0\0\x37\0\0\0\x1a\0\0\0[Desktop Entry]\nName=Lesen\n\
+        \x1a\0\0\0\x01\0\x15\0\0\0\x03\0\0\0\x05\0\0\0LesLesen\
+        \x1d\0\0\0\x01\0\x15\0\0\0\x05\0\0\0\x06\0\0\0LesenLesung";
+    let first = [b"kveldrim\x01\0\0\0", &pairs[..]].concat();
+    let second = [b"kveldrim\x02\0\0\0", &pairs[..]].concat();
+    [first, with_digest(&second)]
+}
 
 /// A folder of a test's own, removed at the end.
 pub struct Folder(pub PathBuf);
@@ -122,6 +139,25 @@ impl Folder {
     /// Runs words that are accepted and write nothing.
     pub fn does(&self, words: &[&str]) {
         self.words(words).writes(b"");
+    }
+
+    /// Runs words that are refused, and tells so; the folder is as before.
+    pub fn refuses(&self, status: i32, words: &[&str], told: &str) {
+        let before = self.all();
+        self.words(words).tells(status, &[told]);
+        assert_eq!(self.all(), before);
+    }
+
+    /// Everything in the folder.
+    pub fn all(&self) -> Vec<(String, Option<Vec<u8>>)> {
+        let names = self.names().into_iter();
+        let bytes = |name: &str| fs::read(self.0.join(name)).ok();
+        names.map(|name| (name.clone(), bytes(&name))).collect()
+    }
+
+    /// The log of `t` has these lines.
+    pub fn logs(&self, lines: &str) {
+        self.words(&["log", "t"]).writes(lines.as_bytes());
     }
 
     /// As [`Folder::run_in`], with words that are text.
