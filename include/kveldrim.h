@@ -16,6 +16,8 @@
  * - Every other number is written only if the call is accepted.
  * - A refusal changes no byte that was lent. An accepted call writes to the start of its output; the rest keeps its bytes.
  *   What the calls that edit write is said below, under Edits.
+ * - kveldrim_batch is the one exception to the last two: its numbers are always written, and a refusal may leave the edits
+ *   before the refused one done.
  * - Slices are lent for the call only. An output or a buffer overlaps no other slice, and the number pointers are not NULL,
  *   point to different numbers and into no slice. Inputs may overlap each other.
  * - No call allocates memory, keeps anything or waits; calls may run in several threads at once. 64 KiB of stack are
@@ -79,12 +81,13 @@
  *
  * Where several apply: 14 for lengths; 1; the earliest line with 2 to 5 (2 first on that line); 3 for no header; 6; 14 for
  * the journal or the list; 7; 10; 12; 8; 6 for a set; 17; 9; 15 and 16 by lowest place; 18; 11; 13. An undo or a redo asks
- * 14, 11 and 14 again after 12.
+ * 14, 11 and 14 again after 12. A batch asks 7 and what comes behind it of one request after another.
  *
  * Edits
  *
- * kveldrim_set, kveldrim_remove, kveldrim_undo and kveldrim_redo edit a file in the caller's memory and keep a journal of
- * it beside. Both are buffers with room, and three numbers go in and come out; they change only if the call is accepted:
+ * kveldrim_set, kveldrim_remove, kveldrim_undo, kveldrim_redo and kveldrim_batch edit a file in the caller's memory and keep
+ * a journal of it beside. Both are buffers with room, and three numbers go in and come out; they change only if the call is
+ * accepted, or with what a batch has done before it is refused:
  *
  *     file, file_room         the buffer of the file; 32,768 bytes are always enough
  *     *file_len               how many of its bytes are the file
@@ -112,6 +115,7 @@
  *  - Both write their record where the standing ones end and make it the last: *used and *standing are its end. So nothing
  *    waits after an edit. Bytes of the journal behind the new *used stay as they were.
  *  - An undo and a redo change no byte of the journal, and of the numbers only *file_len and *standing.
+ *  - A batch leaves what its sets and removes leave, one after another up to the first that is refused; an empty one nothing.
  *  - A file that shrinks has zeros up to its old length. Bytes behind both lengths stay as they were.
  *
  * kveldrim_forget makes room in a journal and is not handed the file. The oldest records that stand go; all others, those
@@ -150,6 +154,21 @@
  *     while (refused == KVELDRIM_JOURNAL_FULL
  *            && kveldrim_forget(journal, sizeof journal, &used, &standing, 1, &place) == 0);
  *
+ * Example: many edits at once, all or none
+ *
+ * Name is set to Book and Icon removed. Where one of the two is refused, what was done before it is undone. The buffers and
+ * numbers are those of the first example of an edit.
+ *
+ *     static const uint8_t requests[] =
+ *         "\x27\0\0\0\5\0" "\x0D\0\0\0" "Desktop Entry" "\4\0\0\0" "Name" "\4\0\0\0" "Book"
+ *         "\x1F\0\0\0\6\0" "\x0D\0\0\0" "Desktop Entry" "\4\0\0\0" "Icon";
+ *     uint64_t done;
+ *     refused = kveldrim_batch(file, sizeof file, &file_len, journal, sizeof journal, &used, &standing,
+ *                              7, requests, sizeof requests - 1, &place, &byte, &done);
+ *     while (refused != 0 && done > 0
+ *            && kveldrim_undo(file, sizeof file, &file_len, journal, sizeof journal, &used, &standing, &place, &byte) == 0)
+ *         done--;
+ *
  * Forms
  *
  * A group's name is one or more of the bytes 0x20 to 0x7E without [ and ]. A key is one or more of A-Z a-z 0-9 and -.
@@ -167,12 +186,12 @@ extern "C" {
 #endif
 
 /* The number of this interface: raised whenever a call is new or its signature changes. kveldrim_abi tells the library's. */
-#define KVELDRIM_ABI 3
+#define KVELDRIM_ABI 4
 
 /* The most bytes that a file may have. */
 #define KVELDRIM_FILE_BOUND 32768
 
-/* The most bytes that a list of files, and that a location, may have. */
+/* The most bytes that a list, of files or of requests, and that a location may have. */
 #define KVELDRIM_LIST_BOUND 65536
 #define KVELDRIM_LOCATION_BOUND 4096
 
@@ -364,6 +383,28 @@ uint32_t kveldrim_undo(uint8_t *file, size_t file_room, uint64_t *file_len,
 uint32_t kveldrim_redo(uint8_t *file, size_t file_room, uint64_t *file_len,
                        uint8_t *journal, size_t journal_room, uint64_t *used, uint64_t *standing,
                        uint64_t *place, uint64_t *byte);
+
+/*
+ * Makes the edits of a list in turn, each as kveldrim_set or kveldrim_remove makes it, and stops at the first that is refused.
+ * Those before it stand, each with a record of its own in the journal, and can be undone one at a time.
+ *
+ * The list is records, one after another: the length of the whole record (4 bytes), the kind (2 bytes), 5 for a set and 6
+ * for a remove, then the group, the key and for a set the text, each after its own length (4 bytes); all numbers are
+ * little-endian, and a record is filled by these exactly.
+ *
+ *     file .. standing         the two buffers and their numbers, as said above under Edits; the numbers are always written
+ *     person                   who makes the edits
+ *     requests, requests_len   the list; at most 65,536 bytes, else 14
+ *     done                     how many edits were made; always written
+ *
+ * Refusals: 14, 1 to 6, 14 for the journal and the list, with no edit made and also where the list is empty; then 7, 10, 8,
+ * 6 (at place 0), 17, 11, 13 of the first request that is refused, which is the one of the number *done, from 0.
+ */
+uint32_t kveldrim_batch(uint8_t *file, size_t file_room, uint64_t *file_len,
+                        uint8_t *journal, size_t journal_room, uint64_t *used, uint64_t *standing,
+                        uint16_t person,
+                        const uint8_t *requests, size_t requests_len,
+                        uint64_t *place, uint64_t *byte, uint64_t *done);
 
 /*
  * Tells the person of a journal's record.

@@ -4,8 +4,8 @@
 root=$(CDPATH='' cd -- "$root" && pwd)
 
 # Debian's packages of the crates that rust/cli/Cargo.toml names.
-crates="librust-clap-dev librust-clap-complete-dev librust-nix-dev librust-rustix-dev librust-serde-json-dev librust-sha2-dev
-    librust-similar-dev librust-unicode-bidi-dev librust-unicode-width-dev librust-walkdir-dev librust-xattr-dev"
+crates="librust-clap-dev librust-clap-complete-dev librust-csv-dev librust-nix-dev librust-rustix-dev librust-serde-json-dev
+    librust-sha2-dev librust-similar-dev librust-unicode-bidi-dev librust-unicode-width-dev librust-walkdir-dev librust-xattr-dev"
 
 say() {
     echo "kveldrim: $*" >&2

@@ -18,6 +18,7 @@ use Rattle.record.specs.Record.{recordBytes, listBytes}
 use Rattle.rows.specs.Title.{desktopEntry}
 use Rattle.wellformed.specs.Check.{fileMost}
 use Rattle.wellformed.specs.WellFormed.{wellFormed}
+use Rattle.wellformed.proofs.Accepts.{checks}
 use Rattle.wellformed.proofs.ByLines.{well-lines}
 use Rattle.splice.specs.Edit.{Edit, spliced, turned, stands, bufferWith}
 use Rattle.splice.proofs.Splits.{splits-length, buffer-content, buffer-length}
@@ -31,10 +32,9 @@ use Rattle.journal.proofs.Numbers.{bounds-fit}
 use Rattle.journal.proofs.Records.{Small, edit-length, AllSmall, recorded, recorded-length, journal-back, lengths-reverse, recorded-parts, recorded-more, small-reverse, lengths-parted, recorded-rest}
 use Rattle.journal.proofs.Forgotten.{rest}
 use Rattle.edit.specs.Calls.{State, content, journalOf, lengthsFit, opened, fileFits, recordFits, applied, request, replayed, undo, redo}
+use Rattle.edit.proofs.Requested.{fits-most, fits-room, fits-record, requested, requested-used}
 use Rattle.demands.specs.Book.{Call, Do, Undo, Redo, Forget, Book, fileAfter, recordsAfter, bookFile, bookStanding, withLists, bookRequest, withoutOldest, bookForget, bookCall}
 use Rattle.demands.specs.Demand3.{withJournal, stateCall, personFits, told, toldOver, leftBy, startState, startBook, AsInTheBook, Demand3}
-use Rattle.demands.proofs.FileLaws.{checks}
-use Rattle.demands.proofs.EditLaws.{fits-most, fits-room, fits-record, requested, requested-used}
 
 -- ---- what the book's lists stand for
 

@@ -1,5 +1,5 @@
 -- Calls that met their contracts tell what the definitions tell and leave what these leave, so demand 3 holds of them. Assumes nothing.
-use mathlib.Core.Path.{_≡_, refl, ap, _∙_}
+use mathlib.Core.Path.{_≡_, refl, sym, ap, _∙_}
 use Prim.Native.Nat.{ℕ}
 use mathlib.Core.Bool.{true, false≢true}
 use mathlib.Core.List.{List, _++_}
@@ -14,27 +14,20 @@ use Rattle.journal.specs.Journal.{Author, NoPerson, Person, by, kindOf}
 use Rattle.journal.specs.Lent as alone
 use Rattle.journal.specs.Lent.{Lent, forget}
 use Rattle.edit.specs.Calls.{State, content, journalOf}
-use Rattle.edit.specs.Step as step
-use Rattle.edit.specs.Step.{Made, answered, Numbers}
+use Rattle.edit.specs.Step.{Made}
 use Rattle.edit.specs.declared.Edited.{Edited}
 use Rattle.edit.specs.declared.Edited.the-variants as edited
-use Rattle.kveldrim.specs.Abi.{codeOf, placeIn, byteIn}
+use Rattle.edit.proofs.Applying.{made-done, made-refused}
+use Rattle.batch.specs.Batch.{Batch, batch}
+use Rattle.kveldrim.specs.Abi.{codeOf, placeIn, byteIn, Returned}
 use Rattle.demands.specs.Book.{Call, Do, Undo, Redo, Forget, bookCall}
 use Rattle.demands.specs.Demand3.{withJournal, stateCall, personFits, writesKind, Told, toldOf, told, toldOver, leftBy, startState, startBook}
-use Rattle.demands.specs.Contracts.{Chain, no-call, one-call, Demand3Of, toldBy, after, ByContract, made, forgot, toldIn, ByExport, called, forgotten, Demand3OfContracts, Demand3OfExports}
+use Rattle.demands.specs.Batches.{eachTold, batchTold, InPlaceOf, AsTheCalls, BatchIsCalls}
+use Rattle.demands.specs.Contracts.{Chain, no-call, one-call, Demand3Of, toldBy, after, ByContract, made, forgot, batched, toldIn, ByExport, called, forgotten, called-batch, Demand3OfContracts, Demand3OfExports}
 use Rattle.demands.proofs.Agreement.{agrees, start-rep, as-in-the-book}
+use Rattle.demands.proofs.BatchLaws.{single-call, more-calls, batch-is-calls}
 
 -- ---- chains of calls that do as the definitions say
-
--- a call that told and left what the definitions say
-record Defined (s : State) (c : Call) (x : Told) (t : State) : Type 0 where
-  tells : x ≡ told (stateCall s c)
-  leaves : t ≡ atExit s (stateCall s c)
-
--- calls that did so
-record Follows (s : State) (cs : List Call) (xs : List Told) (u : State) : Type 0 where
-  told-is : xs ≡ toldOver stateCall s cs
-  left-is : u ≡ leftBy stateCall s cs
 
 -- 01's calls name nobody
 old-fits : (c : Call) → writesKind 1 c ≡ true → personFits c ≡ true
@@ -47,40 +40,28 @@ old-fits Undo e = refl
 old-fits Redo e = refl
 old-fits (Forget k) e = refl
 
-module _ (step : State → Call → Told → State → Type 0) (defined : (s : State) (c : Call) (x : Told) (t : State) → step s c x t → Defined s c x t) where
-  follows : {s : State} {cs : List Call} {xs : List Told} {u : State} → Chain step s cs xs u → Follows s cs xs u
+module _ (step : State → List Call → List Told → State → Type 0)
+    (defined : (s : State) (cs : List Call) (xs : List Told) (t : State) → step s cs xs t → AsTheCalls s cs xs t) where
+  follows : {s : State} {cs : List Call} {xs : List Told} {u : State} → Chain step s cs xs u → AsTheCalls s cs xs u
   unfolding toldOver leftBy
-  follows no-call = record { told-is = refl; left-is = refl }
-  follows (one-call {s} {t} {c = c} {x = x} d h) =
-      let w = follows h in
-      let e = defined s c x t d in
-      record { told-is = rw (e .tells, ← (e .leaves), w .told-is); left-is = rw (← (e .leaves)) (w .left-is) }
+  follows no-call = record { tells = refl; leaves = refl }
+  follows (one-call {s} {t} {cs = cs} {xs = xs} d h) = more-calls (defined s cs xs t d) (follows h)
 
   demand3-of : Demand3Of step
   demand3-of start rest journal olds calls tolds s h o p k =
       let w = follows k in
       let begun = agrees olds (startState start rest journal) (startBook start (length (start ++ rest)) (length journal)) (all-weaker (writesKind 1) personFits old-fits olds o) (start-rep start rest journal h) in
       let d = as-in-the-book calls (leftBy stateCall (startState start rest journal) olds) (leftBy bookCall (startBook start (length (start ++ rest)) (length journal)) olds) p (begun .rep-after) in
-      record { tells = w .told-is ∙ d .tells; file-is = ap content (w .left-is) ∙ d .file-is; standing-is = ap (λ (t : State). t .standing) (w .left-is) ∙ d .standing-is }
+      record { tells = w .tells ∙ d .tells; file-is = ap content (w .leaves) ∙ d .file-is; standing-is = ap (λ (t : State). t .standing) (w .leaves) ∙ d .standing-is }
 
 -- ---- the functions of `edit`
 
-tells : (a : Answer State) (r : Edited) → answered r ≡ step.told a → toldBy r ≡ told a
-tells (given s) (edited.Done x y z) e = refl
-tells (given s) (edited.Refused f) e = no (cc)
-tells (refused f) (edited.Done x y z) e = no (cc)
-tells (refused f) (edited.Refused g) e = let h : g ≡ f = cc in rw h
-
-leaves : (s : State) (a : Answer State) (r : Edited) (file journal : List ℕ) → Made s a r file journal → after s r file journal ≡ atExit s a
-leaves s (given t) (edited.Done x y z) file journal m =
-    let h = m .answer in
-    let a : Numbers = record { size = x; used = y; standing = z } in
-    let b : Numbers = record { size = t .size; used = t .used; standing = t .standing } in
-    let n : a ≡ b = cc in
-    λ i. record { file = m .file-is i; size = n i .size; journal = m .journal-is i; used = n i .used; standing = n i .standing }
-leaves s (given t) (edited.Refused f) file journal m = let h = m .answer in no (cc)
-leaves s (refused f) (edited.Done x y z) file journal m = let h = m .answer in no (cc)
-leaves s (refused f) (edited.Refused g) file journal m = rw (m .file-is, m .journal-is)
+-- what a call that met its contract told and left
+as-made : {s : State} {a : Answer State} (r : Edited) {file journal : List ℕ} → Made s a r file journal → (toldBy r ≡ told a) × (after s r file journal ≡ atExit s a)
+as-made {s} (edited.Done x y z) m = let e = sym (made-done m) in (ap told e, ap (atExit s) e)
+as-made {s} (edited.Refused f) m =
+    let e = made-refused m in
+    (ap told (sym (e .0)), (λ i. record { file = e .1 i; size = s .size; journal = e .2 i; used = s .used; standing = s .standing }) ∙ ap (atExit s) (sym (e .0)))
 
 -- ---- `journal::forget`
 
@@ -93,17 +74,24 @@ leaves-forgot : (s : State) (a : Answer Lent) (journal : List ℕ) → journal �
 leaves-forgot s (given t) journal h = refl
 leaves-forgot s (refused f) journal h = rw h
 
+-- ---- `batch::batch`
+
+as-batch : {s t : State} {author : Author} {list : List ℕ} {cs : List Call} {tolds xs : List Told}
+    → tolds ≡ batchTold (batch s author list) → t ≡ batch s author list .state → InPlaceOf s author list tolds cs xs → AsTheCalls s cs xs t
+unfolding BatchIsCalls
+as-batch {s} {author = author} {list = list} {cs = cs} {xs = xs} e f p = rw f (batch-is-calls s author list cs xs (rw e at p))
+
 pub demand3-of-contracts : Demand3OfContracts
 unfolding Demand3OfContracts
 demand3-of-contracts = demand3-of ByContract defined
   where
-    defined : (s : State) (c : Call) (x : Told) (t : State) → ByContract s c x t → Defined s c x t
-    defined _ _ _ _ (made {s} {c} {r} {file} {journal} m) = record { tells = tells (stateCall s c) r (m .answer); leaves = leaves s (stateCall s c) r file journal m }
+    defined : (s : State) (cs : List Call) (xs : List Told) (t : State) → ByContract s cs xs t → AsTheCalls s cs xs t
+    defined _ _ _ _ (made {r = r} m) = let w = as-made r m in single-call (w .0) (w .1)
     defined _ _ _ _ (forgot {s} {k} {r} {journal} m) =
-        record {
-          tells = ap told (m .answer) ∙ told-then (withJournal s) (forget (journalOf s) k);
-          leaves = ap (λ (a : Answer Lent). withJournal s (atExit (alone.lent journal (s .used) (s .standing)) a)) (m .answer) ∙ leaves-forgot s (forget (journalOf s) k) journal (m .journal-is);
-        }
+        single-call
+        (ap told (m .answer) ∙ told-then (withJournal s) (forget (journalOf s) k))
+        (ap (λ (a : Answer Lent). withJournal s (atExit (alone.lent journal (s .used) (s .standing)) a)) (m .answer) ∙ leaves-forgot s (forget (journalOf s) k) journal (m .journal-is))
+    defined _ _ _ _ (batched m p) = as-batch (ap batchTold (m .is)) (ap (λ (b : Batch). b .state) (m .is)) p
 
 -- ---- the exported functions
 
@@ -132,6 +120,9 @@ told-in : {A : Type 0} (a : Answer A) → toldIn (codeOf a) (placeIn a) (byteIn 
 told-in (given t) = refl
 told-in (refused f) = refused-in f
 
+told-returned : {A : Type 0} (a : Answer A) {code place byte : ℕ} → Returned a code place byte → toldIn code place byte ≡ told a
+told-returned a w = rw (w .code-is, w .place-is, w .byte-is) (told-in a)
+
 left-forgot : (s : State) (a : Answer Lent) → withJournal s (atExit (journalOf s) a) ≡ atExit s (then (withJournal s) a)
 left-forgot s (given t) = refl
 left-forgot s (refused f) = refl
@@ -140,16 +131,12 @@ pub demand3-of-exports : Demand3OfExports
 unfolding Demand3OfExports
 demand3-of-exports = demand3-of ByExport defined
   where
-    defined : (s : State) (c : Call) (x : Told) (t : State) → ByExport s c x t → Defined s c x t
+    defined : (s : State) (cs : List Call) (xs : List Told) (t : State) → ByExport s cs xs t → AsTheCalls s cs xs t
     defined _ _ _ _ (called {s} {c} m) =
-        record {
-          tells = rw (m .returned .code-is, m .returned .place-is, m .returned .byte-is) (told-in (stateCall s c));
-          leaves = λ i. record { file = m .file-is i; size = m .size-is i; journal = m .journal-is i; used = m .used-is i; standing = m .standing-is i };
-        }
+        single-call
+        (told-returned (stateCall s c) (m .returned))
+        (λ i. record { file = m .file-is i; size = m .size-is i; journal = m .journal-is i; used = m .used-is i; standing = m .standing-is i })
     defined _ _ _ _ (forgotten {s} {k} m) =
         let a : Answer Lent = forget (journalOf s) k in
-        let w = m .returned in
-        record {
-          tells = (λ i. toldIn (w .code-is i) (w .place-is i) (w .byte-is i)) ∙ told-in a ∙ told-then (withJournal s) a;
-          leaves = ap (withJournal s) (m .left) ∙ left-forgot s a;
-        }
+        single-call (told-returned a (m .returned) ∙ told-then (withJournal s) a) (ap (withJournal s) (m .left) ∙ left-forgot s a)
+    defined _ _ _ _ (called-batch m p) = as-batch (λ i. eachTold (m .done-is i) (told-returned _ (m .returned) i)) (m .left) p

@@ -1,21 +1,13 @@
 -- An accepted set or remove leaves a well-formed file, is read back, and changes what no other key reads. Assumes nothing.
 use mathlib.Core.Path.{_≡_, refl, sym, ap, _∙_}
-use Prim.Native.Nat.{ℕ, _+_, _≤_}
-use native.Mathlib.Omega.{arith}
+use Prim.Native.Nat.{ℕ}
 use mathlib.Core.Bool.{true, false, _&&_}
 use mathlib.Core.Option.{Option, none, some, Option·map}
-use mathlib.Core.List.{List, [], _++_}
-use lib.ListN.{length, take}
-use borrow.Author.Tests.{leb-true}
-use lib.Dec.{leb}
+use mathlib.Core.List.{List, []}
 use Rattle.base.specs.Lists.{part}
-use Rattle.base.specs.Over.{over}
-use Rattle.base.proofs.Over.{take-over}
-use Rattle.base.proofs.Tests.{no, and-both, by-test}
-use Rattle.fault.specs.declared.Fault.the-variants.{BadArgument, Missing, NoRoom, JournalFull, Damaged}
-use Rattle.fault.specs.Answer.{Answer, given, refused, _>>=_, need, some-or, then, accepted}
-use Rattle.fault.proofs.Answers.{need-given, bind-given, given-is}
-use Rattle.record.specs.Record.{recordBytes}
+use Rattle.base.proofs.Tests.{no, by-test}
+use Rattle.fault.specs.declared.Fault.the-variants.{BadArgument, Missing}
+use Rattle.fault.specs.Answer.{Answer, given, refused, _>>=_, some-or, then}
 use Rattle.text.specs.Escape.{rawText}
 use Rattle.text.proofs.ReadBack.{read-back}
 use Rattle.line.specs.Form.{groupForm, keyForm}
@@ -23,100 +15,21 @@ use Rattle.rows.specs.Rows.{Row, readRows, rawValue}
 use Rattle.rows.specs.Title.{desktopEntry, Title, Key, sameTitle, findRow}
 use Rattle.rows.proofs.Titles.{nameless}
 use Rattle.rows.proofs.Sight.{linesOf}
-use Rattle.wellformed.specs.Check.{fileMost, check}
-use Rattle.wellformed.specs.WellFormed.{wellFormed, CheckAccepts}
-use Rattle.wellformed.proofs.Accepts.{check-accepts}
+use Rattle.wellformed.specs.WellFormed.{wellFormed}
+use Rattle.wellformed.proofs.Accepts.{checks}
 use Rattle.entry.specs.Lookup.{Extent, valueEnds, lookup}
 use Rattle.entry.proofs.Lookups.{row-stands}
-use Rattle.splice.specs.Edit.{Edit, spliced, bufferWith}
-use Rattle.splice.proofs.Splits.{buffer-content}
+use Rattle.splice.specs.Edit.{Edit}
 use Rattle.change.specs.Change.{Request, Set, Remove, editOf}
 use Rattle.change.proofs.LineValues.{valueIn, AlikeBut, value-file}
 use Rattle.change.proofs.Accepted.{set-of, remove-of, edit-undone}
 use Rattle.change.proofs.Kept.{After, after-set, after-remove}
-use Rattle.journal.specs.Journal.{journalMost, Authored, by, Journal, editRecord, editLength}
-use Rattle.journal.specs.Lent.{usedOf, journalIn}
-use Rattle.journal.proofs.Records.{edit-length}
-use Rattle.edit.specs.Calls.{State, content, journalOf, lengthsFit, opened, fileFits, recordFits, applied, request}
+use Rattle.journal.specs.Journal.{Authored, by}
+use Rattle.edit.specs.Calls.{State, content, request}
+use Rattle.edit.proofs.Requested.{Done, done, done-left, most}
 use Rattle.demands.specs.Files.{handed}
 use Rattle.demands.specs.Edits.{askedEntry, EditKeepsWellFormed, OthersReadAsBefore, SetIsReadBack, RemovedIsMissing, TurnedRound}
-use Rattle.demands.proofs.FileLaws.{checks, lookup-is}
-
--- ---- what an accepted call says
-
-pub fits-most : (room : ℕ) (f : List ℕ) → fileFits room f ≡ true → leb (length f) fileMost ≡ true
-fits-most room f h = and-both (leb (length f) room) (leb (length f) fileMost) h .1
-
--- what the two tests of room say
-pub fits-room : (room : ℕ) (f : List ℕ) → fileFits room f ≡ true → length f ≤ room
-fits-room room f h = leb-true (length f) room (and-both (leb (length f) room) (leb (length f) fileMost) h .0)
-
-pub fits-record : (room n : ℕ) (e : Authored Edit) → recordFits room n e ≡ true → (n + editLength e ≤ room) × (n + editLength e ≤ 65536)
-fits-record room n e h =
-    let p = and-both (leb (n + editLength e) room) (leb (n + editLength e) journalMost) h in
-    (leb-true (n + editLength e) room (p .0), leb-true (n + editLength e) journalMost (p .1))
-
--- what is lent after a request that makes this edit of a file
-abbrev pub requested : State → List ℕ → Authored Edit → State
-requested s f e =
-    record {
-      file = bufferWith (s .file) (s .size) (spliced (e .what) f);
-      size = length (spliced (e .what) f);
-      journal = over (s .journal) (s .standing) (recordBytes (editRecord e));
-      used = s .standing + editLength e;
-      standing = s .standing + editLength e;
-    }
-
--- its record stands behind those that stood
-pub requested-used : (s : State) (f : List ℕ) (e : Authored Edit) → s .standing + editLength e ≤ length (s .journal)
-    → usedOf (journalOf (requested s f e)) ≡ take (s .standing) (s .journal) ++ recordBytes (editRecord e)
-requested-used s f e h =
-    let bytes : List ℕ = recordBytes (editRecord e) in
-    ap (λ (n : ℕ). take (s .standing + n) (over (s .journal) (s .standing) bytes)) (sym (edit-length e)) ∙ take-over (s .journal) (s .standing) bytes (omega (arith, edit-length e))
-
--- the file was well formed, the edit is the request's, there was room for both, and what is left is what the request makes
-pub record Done (s t : State) (q : Authored Request) : Type 0 where
-  pub edit : Edit
-  pub edits : editOf (content s) (q .what) ≡ given edit
-  pub well : wellFormed (content s) ≡ true
-  pub file-fits : fileFits (length (s .file)) (spliced edit (content s)) ≡ true
-  pub record-fits : recordFits (length (s .journal)) (s .standing) (by (q .author) edit) ≡ true
-  pub is : requested s (content s) (by (q .author) edit) ≡ t
-
-pub opened-well : (s : State) (j : Journal) → opened s ≡ given j → wellFormed (content s) ≡ true
-unfolding opened CheckAccepts
-opened-well s j e =
-    let a = need-given (lengthsFit s) Damaged (λ _. check (content s) >>= λ _. journalIn (journalOf s)) j e in
-    let b = bind-given (check (content s)) (λ _. journalIn (journalOf s)) j (a .1) in
-    sym (check-accepts desktopEntry (content s)) ∙ ap accepted (b .1)
-
-pub done : (s t : State) (q : Authored Request) → request s q ≡ given t → Done s t q
-unfolding request applied
-done s t q h =
-    let f : List ℕ = content s in
-    let made : Edit → Authored Edit = λ e. by (q .author) e in
-    let last : Edit → Answer State = λ e. need (recordFits (length (s .journal)) (s .standing) (made e)) JournalFull >>= λ _. given (requested s f (made e)) in
-    let rest : Edit → Answer State = λ e. need (fileFits (length (s .file)) (spliced e f)) NoRoom >>= λ _. last e in
-    let a = bind-given (opened s) (λ _. editOf f (q .what) >>= rest) t h in
-    let b = bind-given (editOf f (q .what)) rest t (a .2) in
-    let e : Edit = b .0 in
-    let c = need-given (fileFits (length (s .file)) (spliced e f)) NoRoom (λ _. last e) t (b .2) in
-    let d = need-given (recordFits (length (s .journal)) (s .standing) (made e)) JournalFull (λ _. given (requested s f (made e))) t (c .1) in
-    record {
-      edit = e;
-      edits = b .1;
-      well = opened-well s (a .0) (a .1);
-      file-fits = c .0;
-      record-fits = d .0;
-      is = given-is (requested s f (made e)) t (d .1);
-    }
-
--- the file is left after the edit, and is not too long
-pub done-left : {s t : State} {q : Authored Request} (d : Done s t q) → content t ≡ spliced (d .edit) (content s)
-done-left {s} d = ap content (sym (d .is)) ∙ buffer-content (s .file) (s .size) (spliced (d .edit) (content s))
-
-most : {s t : State} {q : Authored Request} (d : Done s t q) → leb (length (spliced (d .edit) (content s))) fileMost ≡ true
-most {s} d = fits-most (length (s .file)) (spliced (d .edit) (content s)) (d .file-fits)
+use Rattle.demands.proofs.FileLaws.{lookup-is}
 
 -- ---- lookup by the lines of a file
 

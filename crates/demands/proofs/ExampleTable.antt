@@ -10,7 +10,7 @@ use Rattle.line.specs.Name.{postfixAt, readName}
 use Rattle.line.specs.Line.{entryAfter, readEntry, readHeader, readLine}
 use Rattle.line.specs.Form.{groupForm, plainForm, keyForm, localeForm}
 use Rattle.record.specs.Number.{littleEndian, numberOf}
-use Rattle.record.specs.Record.{headBytes, recordBytes, listBytes, listOf, cutAfter, bodiesOf, readList}
+use Rattle.record.specs.Record.{headBytes, recordBytes, listBytes, listOf, cutAfter, bodiesOf, readList, readEach, readRecords}
 use Rattle.rows.specs.Rows.{rows, lineOf, ended, rowsFrom, readRows, rawValue}
 use Rattle.rows.specs.Title.{title, sameTitle, findRow}
 use Rattle.wellformed.specs.Check.{titleFault, earliest, plainOf, noPlain, titledAs, plainAll, checkAs}
@@ -19,7 +19,7 @@ use Rattle.entry.specs.Lookup.{valueEnds, lookup}
 use Rattle.entry.specs.Choose.{choose}
 use Rattle.splice.specs.Edit.{spliced, bufferWith, replaced}
 use Rattle.change.specs.Change.{inserting, setEdit, editOf}
-use Rattle.journal.specs.Journal.{editBytes, editRecord, readEdits, partedAt, readJournal}
+use Rattle.journal.specs.Journal.{editBytes, editRecord, partedAt, readJournal}
 use Rattle.journal.specs.Lent.{numbersFit}
 use Rattle.edit.specs.Calls.{lengthsFit, opened, applied, request}
 use Rattle.command.specs.Words.{quoteLength, wordLength, wordsAfter}
@@ -36,8 +36,8 @@ unfolding same span any all first last keyByte groupByte blankByte valueByte tex
     rows lineOf rowsFrom readRows title sameTitle findRow titleFault earliest plainOf noPlain titledAs plainAll checkAs
     stripped plainLocale candidates firstKey chosen valueEnds lookup choose
     littleEndian numberOf headBytes recordBytes listBytes listOf cutAfter ended rawValue spliced replaced bufferWith inserting setEdit editOf
-    editBytes editRecord readEdits partedAt readJournal numbersFit lengthsFit opened applied request
-    joined bodiesOf readList quoteLength wordLength wordsAfter
+    editBytes editRecord partedAt readJournal numbersFit lengthsFit opened applied request
+    joined bodiesOf readList readEach readRecords quoteLength wordLength wordsAfter
     reserved unquotedByte needsBackslash quotedByte standsIn codePiece codeIn
     pieceOf widthOf piecesAfter formOf argumentOf pieceFault piecesFault quotedFault wordFault wordsFault readCommand
     pieceBytes piecesBytes leavesNothing iconArguments expanded expandedAll runs

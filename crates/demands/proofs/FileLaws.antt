@@ -12,7 +12,6 @@ use Rattle.base.specs.Lists.{span, all, any, first}
 use Rattle.base.proofs.Tests.{no, and-both, or-both}
 use Rattle.fault.specs.declared.Fault.the-variants.{BadArgument, Missing}
 use Rattle.fault.specs.Answer.{Answer, given, refused, _>>=_, need, some-or, accepted}
-use Rattle.fault.proofs.Answers.{accepted-given}
 use Rattle.text.specs.Class.{keyByte}
 use Rattle.line.specs.Line.{isBad}
 use Rattle.line.specs.Form.{groupForm, keyForm, plainForm, localeForm}
@@ -20,8 +19,8 @@ use Rattle.rows.specs.Rows.{Row, readRows}
 use Rattle.rows.specs.Title.{desktopEntry, Title, Key, title, sameTitle, titles, findRow, has}
 use Rattle.rows.proofs.Titles.{found-title}
 use Rattle.wellformed.specs.Check.{check, plainOf, plainTitle, wanted, noPlain}
-use Rattle.wellformed.specs.WellFormed.{leads, distinct, wellFormedAs, wellFormed, CheckAccepts}
-use Rattle.wellformed.proofs.Accepts.{check-accepts}
+use Rattle.wellformed.specs.WellFormed.{leads, distinct, wellFormedAs, wellFormed}
+use Rattle.wellformed.proofs.Accepts.{checks}
 use Rattle.choice.specs.Locale.{candidates, postfixed, firstKey, chosen}
 use Rattle.choice.proofs.Chosen.{chosen-there}
 use Rattle.choice.proofs.Choices.{first-append}
@@ -29,11 +28,7 @@ use Rattle.entry.specs.Lookup.{valueEnds, lookup}
 use Rattle.entry.specs.Choose.{chosenEnds, choose}
 use Rattle.demands.specs.Files.{LookupMisses, ChoiceMisses, ChoiceTakesFirst}
 
--- ---- a well-formed file passes the check, and each postfixed key stands plain too
-
-pub checks : (file : List ℕ) → wellFormed file ≡ true → check file ≡ given tt
-unfolding CheckAccepts
-checks file w = accepted-given (check file) (check-accepts desktopEntry file ∙ w) .1
+-- ---- each postfixed key of a well-formed file stands plain too
 
 all-plain : (file : List ℕ) → wellFormed file ≡ true → any (noPlain (readRows file)) (readRows file) ≡ false
 unfolding wellFormedAs

@@ -18,7 +18,7 @@ use Rattle.wellformed.specs.WellFormed.{wellFormed}
 use Rattle.splice.specs.Edit.{Edit, spliced, turned, stands, bufferWith}
 use Rattle.journal.specs.Journal.{Authored, personOf, editLength, lengths, Journal, oldest, newer, inOrder, nextOf}
 use Rattle.journal.specs.Lent as alone
-use Rattle.journal.specs.Lent.{Lent, lent, usedOf, numbersFit, journalIn, without, forget}
+use Rattle.journal.specs.Lent.{Lent, usedOf, numbersFit, journalIn, without, forget}
 use Rattle.journal.proofs.Opened.{opened-says}
 use Rattle.journal.proofs.Records.{lengths-parted, order-parted}
 use Rattle.journal.proofs.Joined.{journal-says}

@@ -5,6 +5,7 @@ pub mod MergeLaws
 pub mod BookLaws
 pub mod Agreement
 pub mod PersonLaws
+pub mod BatchLaws
 pub mod ContractLaws
 pub mod ExampleTable
 pub mod Expansions

@@ -19,6 +19,7 @@ use Rattle.rows.proofs.Rows.{IsRows, rows-are, joined-rows}
 use Rattle.rows.proofs.Titles.{nameless, sameTitle-true}
 use Rattle.rows.proofs.Sight.{linesOf}
 use Rattle.wellformed.specs.WellFormed.{wellFormed}
+use Rattle.wellformed.proofs.Accepts.{checks}
 use Rattle.choice.specs.Locale.{firstKey, keysOf, chosen}
 use Rattle.entry.specs.Lookup.{lookup}
 use Rattle.entry.specs.Choose.{choose}
@@ -30,11 +31,12 @@ use Rattle.change.proofs.Accepted.{set-of}
 use Rattle.change.proofs.Kept.{value-of}
 use Rattle.change.proofs.Sets.{valued, valued-rows, valued-twice, set-rows}
 use Rattle.edit.specs.Calls.{State, content, request}
+use Rattle.edit.proofs.Requested.{done, done-left}
 use Rattle.demands.specs.Files.{handed, chosenPart}
 use Rattle.demands.specs.Edits.{askedEntry, OthersReadAsBefore, SetIsReadBack}
 use Rattle.demands.specs.Merge.{SetsCommute, requestAll, setsPresent, allSetPresent, meet, SetListsCommute, ChoiceReadsAsBefore}
-use Rattle.demands.proofs.FileLaws.{checks, choose-is, lookup-has}
-use Rattle.demands.proofs.EditLaws.{done, done-left, leaves, others-read-as-before, set-is-read-back}
+use Rattle.demands.proofs.FileLaws.{choose-is, lookup-has}
+use Rattle.demands.proofs.EditLaws.{leaves, others-read-as-before, set-is-read-back}
 
 -- ---- the rows after sets of entries that are there
 

@@ -9,28 +9,33 @@ use lib.ListN.{length, take}
 use lib.Dec.{eqb, ltb}
 use Rattle.base.specs.Choice.{pick, maybe}
 use Rattle.base.specs.Lists.{ascii, any, all, first}
+use Rattle.base.proofs.Tests.{no}
 use Rattle.fault.specs.declared.Fault.{Fault}
 use Rattle.fault.specs.declared.Fault.the-variants.{BadLine, BadArgument, Missing, UnfitText, NoRoom, NothingLeft, JournalFull, Damaged, BadExec, BadCode, Incomplete}
-use Rattle.fault.specs.Answer.{given, refused, unless, then}
+use Rattle.fault.specs.Answer.{Answer, given, refused, unless, then}
+use Rattle.fault.proofs.Answers.{unless-refused}
 use Rattle.fault.proofs.Refusals.{IfRefused, if-then, if-bind, if-need, if-or, if-some, if-none, of-refusal, Not2, came-later, came-first}
 use Rattle.text.specs.Escape.{readText}
 use Rattle.line.specs.Name.{byteAt}
 use Rattle.line.specs.Form.{groupForm, keyForm, plainForm, localeForm}
 use Rattle.record.specs.Record.{readList, listMost}
+use Rattle.requests.specs.Requests.{readRequests}
 use Rattle.rows.specs.Rows.{Row, readRows, rawValue}
 use Rattle.rows.specs.Title.{Key, findRow, has, desktopEntry}
 use Rattle.wellformed.specs.Check.{check}
 use Rattle.wellformed.specs.WellFormed.{wellFormed}
+use Rattle.wellformed.proofs.Accepts.{checks}
 use Rattle.choice.specs.Locale.{chosen}
 use Rattle.complete.specs.Complete.{main, knownType, execWhereDue, urlWhereDue, badBoolean, booleans, completeRows}
 use Rattle.entry.specs.Complete.{complete}
 use Rattle.entry.specs.Lookup.{lookup}
 use Rattle.entry.specs.Choose.{choose}
 use Rattle.splice.specs.Edit.{Edit, spliced, turned, stands}
-use Rattle.change.specs.Change.{editOf}
-use Rattle.journal.specs.Journal.{by, editLength, readJournal, nextOf}
+use Rattle.change.specs.Change.{Request, editOf}
+use Rattle.journal.specs.Journal.{Author, by, editLength, readJournal, nextOf}
 use Rattle.journal.specs.Lent.{forget}
 use Rattle.edit.specs.Calls.{State, content, journalOf, lengthsFit, fileFits, recordFits, opened, applied, request, replayed, undo, redo}
+use Rattle.batch.specs.Batch.{listed, begun, batch}
 use Rattle.command.specs.Words.{Word, words, insideLength}
 use Rattle.command.specs.Codes.{codeIn, needsBackslash, standsIn}
 use Rattle.command.specs.Command.{takesNext, pieceOf, widthOf, isItem, pieceFault, piecesFault, inside, unfit, quotedFault, faultAs, formOf, wordFault, takesFiles, argumentOf, wordsFault, readCommand, hasPiece, isName, isIcon}
@@ -41,8 +46,11 @@ use Rattle.exec.specs.Expand.{fitItem, fitLocation, askedItems, nameText, iconT
 use Rattle.kveldrim.proofs.NoByte.{read-not2, forget-not2}
 use Rattle.demands.specs.Book.{Call, Do, Undo, Redo, Forget}
 use Rattle.demands.specs.Demand3.{withJournal, stateCall}
+use Rattle.demands.specs.Edits.{EditKeepsWellFormed}
 use Rattle.demands.specs.BadLine.{BadAt, lendsFile, BadLineTold, BadLineToldByCalls, CheckPassedOn}
 use Rattle.demands.proofs.BookLaws.{request-refusals}
+use Rattle.demands.proofs.EditLaws.{edit-keeps-well-formed}
+use Rattle.demands.proofs.BatchLaws.{in-turn}
 use Rattle.demands.proofs.BadLines.{bad-line-told}
 
 -- ---- the check's refusal ends every call
@@ -55,7 +63,7 @@ edit-refuses s f Redo c l e = rw (l, e)
 edit-refuses s f (Forget k) c l e = absurd (false≢true c)
 
 pub check-passed-on : CheckPassedOn
-unfolding CheckPassedOn complete lookup choose askedItems expand
+unfolding CheckPassedOn complete lookup choose askedItems expand batch listed opened
 check-passed-on file f e =
     record {
       complete-refuses = rw e;
@@ -63,6 +71,7 @@ check-passed-on file f e =
       choose-refuses = λ group key locale. rw e;
       expand-refuses = λ locale location list run. rw e;
       edits-refuse = λ s c h l i. edit-refuses s f c h l (ap check i ∙ e);
+      batch-refuses = λ s author list l i. rw (l, i, e);
     }
 
 -- ---- what the calls ask after the check
@@ -107,6 +116,26 @@ edit-tells s Redo line byte e = opened-tells s line byte (came-first (opened s) 
 edit-tells s (Forget k) line byte e =
     let n : true ≡ false = of-refusal Not2 (then (withJournal s) (forget (journalOf s) k)) (BadLine line byte) (if-then Not2 (withJournal s) (forget (journalOf s) k) (forget-not2 (journalOf s) k)) e in
     absurd (false≢true (sym n))
+
+-- ---- a batch
+
+-- 2 comes from what it asks first: an accepted request leaves a well-formed file
+batch-tells : (s : State) (author : Author) (list : List ℕ) (line byte : ℕ) → batch s author list .stopped ≡ some (BadLine line byte)
+    → check (content s) ≡ refused (BadLine line byte)
+unfolding batch listed EditKeepsWellFormed
+batch-tells s author list line byte = go (listed s list) refl
+  where
+    go : (a : Answer (List Request)) → listed s list ≡ a → begun s author a .stopped ≡ some (BadLine line byte) → check (content s) ≡ refused (BadLine line byte)
+    go (refused f) h e = opened-tells s line byte (came-first (opened s) _ line byte (λ _. if-some Not2 (readRequests list) Damaged _ refl (λ _. tt)) (h ∙ ap refused (cc)))
+    go (given qs) h e =
+        in-turn author (λ qs s b. b .stopped ≡ some (BadLine line byte) → check (content s) ≡ refused (BadLine line byte))
+        (λ s e. no (cc))
+        (λ q qs s f i e. edit-tells s (Do (by author q)) line byte (i ∙ ap refused (cc)))
+        (λ q qs s t b i w e.
+        let bad = w e in
+        let good = checks (content t) (edit-keeps-well-formed s t (by author q) i) in
+        no (cc))
+        qs s e
 
 -- ---- the expansion
 
@@ -213,6 +242,7 @@ bad-line-told-by-calls file =
       choose-tells = λ group key locale line byte e. so line byte (came-first (check file) _ line byte (λ _. if-need Not2 (groupForm group && plainForm key && localeForm locale) BadArgument _ refl (λ _. if-some Not2 (chosen (readRows file) group key locale) Missing _ refl (λ r. tt))) e);
       expand-tells = λ locale location list run line byte e. so line byte (expand-tells file locale location list run line byte e);
       edits-tell = λ s c i line byte e. so line byte (ap check (sym i) ∙ edit-tells s c line byte e);
+      batch-tells = λ s author list i line byte e. so line byte (ap check (sym i) ∙ batch-tells s author list line byte (unless-refused (batch s author list .stopped) (BadLine line byte) e));
     }
   where
     so : (line byte : ℕ) → check file ≡ refused (BadLine line byte) → BadAt file line byte

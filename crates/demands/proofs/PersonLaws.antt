@@ -2,41 +2,33 @@
 use mathlib.Core.Path.{_≡_, refl, sym, ap, _∙_}
 use Prim.Native.Nat.{ℕ, zero, suc, _+_, _-_, _≤_, _<_}
 use native.Mathlib.Omega.{arith}
-use mathlib.Core.Bool.{Bool, true, false, _&&_}
+use mathlib.Core.Bool.{Bool, true, false}
 use mathlib.Core.Option.{Option, none, some}
 use mathlib.Core.List.{List, [], _∷_, _++_, map, reverseAux}
 use lib.ListN.{length, take, getElem?}
-use lib.Seq.{length-take-le, take-take}
+use lib.Seq.{length-take-le}
 use lib.Dec.{eqb, leb}
 use borrow.Author.Tests.{leb-true, leb-false, le-leb}
 use Rattle.base.specs.Lists.{all}
-use Rattle.base.specs.Over.{over}
-use Rattle.base.proofs.Over.{length-over}
 use Rattle.base.proofs.Tests.{no, by-test, and-both}
 use Rattle.fault.specs.declared.Fault.the-variants.{Damaged, NoRoom, NothingLeft, JournalFull}
 use Rattle.fault.specs.Answer.{Answer, given, refused, _>>=_, need, some-or, then, atExit}
 use Rattle.fault.proofs.Answers.{need-given, bind-given, some-given, given-is}
-use Rattle.record.specs.Record.{recordBytes, bodiesOf, readList}
-use Rattle.rows.specs.Title.{desktopEntry}
-use Rattle.wellformed.specs.Check.{fileMost, check}
+use Rattle.record.specs.Record.{bodiesOf, readList}
 use Rattle.wellformed.specs.WellFormed.{wellFormed}
-use Rattle.wellformed.proofs.ByLines.{well-lines}
 use Rattle.splice.specs.Edit.{Edit, spliced, turned, stands, bufferWith}
-use Rattle.splice.proofs.Splits.{splits-length, buffer-length}
 use Rattle.change.specs.Change.{Request, editOf}
-use Rattle.change.proofs.Accepted.{edit-splits}
 use Rattle.journal.specs.Journal.{Authored, by, personOf, kindOf, editRecord, editLength, lengths, Journal, inOrder, nextOf}
-use Rattle.journal.specs.Lent.{Lent, lent, usedOf, numbersFit, personIn, person}
+use Rattle.journal.specs.Lent.{Lent, lent, usedOf, personIn, person}
 use Rattle.journal.specs.Lent as alone
 use Rattle.journal.proofs.Opened.{opened-says, opened-by}
-use Rattle.journal.proofs.Joined.{journal-says, journal-parted, journal-more}
-use Rattle.journal.proofs.Records.{Small, edit-length, recorded, recorded-length, recorded-back, lengths-reverse}
-use Rattle.edit.specs.Calls.{State, content, journalOf, lengthsFit, fileFits, recordFits, opened, request, replayed, undo, redo}
+use Rattle.journal.proofs.Joined.{journal-says, journal-parted}
+use Rattle.journal.proofs.Records.{recorded, recorded-length, recorded-back, lengths-reverse}
+use Rattle.edit.specs.Calls.{State, content, journalOf, fileFits, recordFits, opened, replayed, undo, redo}
+use Rattle.edit.proofs.Requested.{opened-both, request-stands}
 use Rattle.demands.specs.Book.{Call, Do, Undo, Redo, Forget, Book, bookFile, bookStanding, withLists, bookRequest, bookUndo, bookRedo, withoutOldest, bookForget, bookCall}
 use Rattle.demands.specs.Demand3.{stateCall, writesKind, leftBy, startState, startBook}
 use Rattle.demands.specs.Persons.{PersonsAsInTheBook, PersonTold, PersonsStay, RecordsOfOneKind}
-use Rattle.demands.proofs.FileLaws.{checks}
-use Rattle.demands.proofs.EditLaws.{requested, requested-used, opened-well, done, fits-room, fits-record, leaves}
 use Rattle.demands.proofs.Agreement.{Past, Next, Rep, small, opens-journal, agrees, start-rep}
 
 -- ---- as in the book
@@ -187,58 +179,6 @@ records-of-one-kind start rest journal kind calls h p w =
     rw (r .bytes, le-leb (length (recorded es)) 65536 l, recorded-back es (small s b r), kind-records kind es (all-order (ofKind kind) (r .es) (r .ws) stand wait))
 
 -- ---- a set or remove
-
--- what is lent is opened by its file and its journal
-record Both (s : State) (j : Journal) : Type 0 where
-  size-fits : s .size ≤ length (s .file)
-  well : wellFormed (content s) ≡ true
-  journal-opened : alone.opened (journalOf s) ≡ given j
-
-opened-both : (s : State) (j : Journal) → opened s ≡ given j → Both s j
-unfolding opened lengthsFit alone.opened
-opened-both s j h =
-    let a = need-given (leb (s .size) (length (s .file)) && numbersFit (journalOf s)) Damaged (λ _. check (content s) >>= λ _. alone.journalIn (journalOf s)) j h in
-    let l = and-both (leb (s .size) (length (s .file))) (numbersFit (journalOf s)) (a .0) in
-    let b = bind-given (check (content s)) (λ _. alone.journalIn (journalOf s)) j (a .1) in
-    record { size-fits = leb-true _ _ (l .0); well = opened-well s j h; journal-opened = rw (l .1) (b .2) }
-
-both-opened : (s : State) (j : Journal) → Both s j → opened s ≡ given j
-unfolding opened lengthsFit alone.opened
-both-opened s j w =
-    let a = need-given (numbersFit (journalOf s)) Damaged (λ _. alone.journalIn (journalOf s)) j (w .journal-opened) in
-    rw (le-leb (s .size) (length (s .file)) (w .size-fits), a .0, checks (content s) (w .well)) (a .1)
-
--- an accepted set or remove stands, by its author, behind those that stood, and none waits
-request-stands : (s t : State) (q : Authored Request) (j : Journal) → personOf (q .author) < 65536 → opened s ≡ given j → request s q ≡ given t
-    → (e : Edit) × (opened t ≡ given (record { stand = by (q .author) e ∷ j .stand; wait = [] }))
-request-stands s t q j p h e =
-    let d = done s t q e in
-    let f : List ℕ = content s in
-    let m : Authored Edit = by (q .author) (d .edit) in
-    let w = opened-both s j h in
-    let o = opened-says (journalOf s) j (w .journal-opened) in
-    let n = o .bounds in
-    let r = fits-record (length (s .journal)) (s .standing) m (d .record-fits) in
-    let c = splits-length (d .edit) f (edit-splits f (q .what) (d .edit) (d .edits)) in
-    let g = well-lines desktopEntry f (d .well) .0 in
-    let bytes : List ℕ = recordBytes (editRecord m) in
-    let l : length bytes ≡ editLength m = edit-length m in
-    let x : take (s .standing + editLength m) (over (s .journal) (s .standing) bytes) ≡ take (s .standing) (take (s .used) (s .journal)) ++ bytes =
-    requested-used s f m (r .0) ∙ ap (λ (x : List ℕ). x ++ bytes) (sym (take-take (s .standing) (s .used) (s .journal) (n .standing-fits))) in
-    let small : Small m = record { person-small = p; place-small = omega (arith, leb-true (length f) fileMost g); length-small = omega arith } in
-    let y = journal-more (take (s .used) (s .journal)) (s .standing) j m (o .reads) small in
-    let b : length (over (s .journal) (s .standing) bytes) ≡ length (s .journal) = length-over (s .journal) (s .standing) bytes (omega arith) in
-    let v : State = requested s f m in
-    let room = fits-room (length (s .file)) (spliced (d .edit) f) (d .file-fits) in
-    let z : length (v .file) ≡ length (s .file) = buffer-length (s .file) (s .size) (spliced (d .edit) f) (w .size-fits) room in (
-      d .edit,
-      ap opened (sym (d .is))
-          ∙ both-opened v (record { stand = m ∷ j .stand; wait = [] }) (record {
-            size-fits = omega arith;
-            well = ap (λ (u : State). wellFormed (content u)) (d .is) ∙ leaves s t q e .well;
-            journal-opened = opened-by (journalOf v) (record { stand = m ∷ j .stand; wait = [] }) (record { bounds = record { used-fits = omega arith; used-bound = omega arith; standing-fits = omega arith }; reads = rw x y });
-          }),
-    )
 
 -- in order: what follows those that stand, and one of those
 pub order-after : (es ws : List (Authored Edit)) (n : ℕ) → getElem? (reverseAux es ws) (length es + n) ≡ getElem? ws n

@@ -24,7 +24,7 @@ use Rattle.line.specs.declared.Line.the-variants.{Blank, Comment, Header, Entry
 use Rattle.rows.specs.Rows.{Row, readRows}
 use Rattle.rows.specs.Title.{desktopEntry, Title, Group, title, sameTitle, seeing}
 use Rattle.record.specs.Record.{recordBytes}
-use Rattle.wellformed.specs.Check.{fileMost, titleFault, rowFault, earliest, isGroup, noPlain, titledAs, plainAll, checkAs, check}
+use Rattle.wellformed.specs.Check.{fileMost, titleFault, rowFault, earliest, isGroup, noPlain, titledAs, plainAll, checkAs}
 use Rattle.splice.specs.Edit.{Edit, spliced}
 use Rattle.change.specs.Change.{Request, editOf}
 use Rattle.journal.specs.Journal.{Authored, by, editRecord, editLength, lengths, Journal, oldest}
@@ -34,9 +34,9 @@ use Rattle.journal.proofs.Numbers.{Bounds}
 use Rattle.journal.proofs.Opened.{opened-says}
 use Rattle.journal.proofs.Forgotten.{others, rest}
 use Rattle.edit.specs.Calls.{State, content, journalOf, fileFits, recordFits, applied, request}
+use Rattle.edit.proofs.Requested.{fits-record, requested, requested-used, done}
 use Rattle.demands.specs.Demand3.{withJournal, told}
 use Rattle.demands.specs.Forgetting.{AcceptedAfterForget, RefusedAfterForget, RoomAfterForget}
-use Rattle.demands.proofs.EditLaws.{fits-record, requested, requested-used, done}
 use Rattle.demands.proofs.ForgetLaws.{opened-with, with-given, ready, keptIn, left, left-some}
 
 -- ---- where the edit was accepted

@@ -2,12 +2,13 @@
 use Prim.Native.Nat.{ℕ, _+_, _-_, _≤_, _<_}
 use mathlib.Core.Path.{_≡_}
 use mathlib.Core.Bool.{Bool, true, false}
+use mathlib.Core.Option.{some}
 use mathlib.Core.List.{List, [], _++_}
 use lib.ListN.{length, take, getD}
 use Rattle.base.specs.Lists.{any}
 use Rattle.fault.specs.declared.Fault.{Fault}
 use Rattle.fault.specs.declared.Fault.the-variants.{BadLine}
-use Rattle.fault.specs.Answer.{Answer, refused}
+use Rattle.fault.specs.Answer.{Answer, refused, unless}
 use Rattle.line.specs.Line.{readLine, isBad}
 use Rattle.line.specs.Place.{Mended}
 use Rattle.rows.specs.Rows.{rows, lineOf}
@@ -16,7 +17,9 @@ use Rattle.entry.specs.Complete.{complete}
 use Rattle.entry.specs.Lookup.{lookup}
 use Rattle.entry.specs.Choose.{choose}
 use Rattle.exec.specs.Expand.{expand}
+use Rattle.journal.specs.Journal.{Author}
 use Rattle.edit.specs.Calls.{State, content, lengthsFit}
+use Rattle.batch.specs.Batch.{nothing, batch}
 use Rattle.demands.specs.Book.{Call, Do, Undo, Redo, Forget}
 use Rattle.demands.specs.Demand3.{stateCall}
 
@@ -54,6 +57,7 @@ pub record CallsTell (file : List ℕ) : Type 0 where
   pub choose-tells : (group key locale : List ℕ) → TellsOf file (choose file group key locale)
   pub expand-tells : (locale location list : List ℕ) (run : ℕ) → TellsOf file (expand file locale location list run)
   pub edits-tell : (s : State) (c : Call) → content s ≡ file → TellsOf file (stateCall s c)
+  pub batch-tells : (s : State) (author : Author) (list : List ℕ) → content s ≡ file → TellsOf file (unless (batch s author list .stopped))
 
 -- what the other calls tell of a bad line is so too
 unfoldable pub BadLineToldByCalls : Type 0
@@ -66,13 +70,14 @@ lendsFile Undo = true
 lendsFile Redo = true
 lendsFile (Forget k) = false
 
--- a refusal that every other call on a file gives; one that edits gives it where the lengths fit
+-- a refusal that every other call on a file gives; one that edits gives it where the lengths fit, and a batch has nothing done then
 pub record PassedOn (file : List ℕ) (f : Fault) : Type 0 where
   pub complete-refuses : complete file ≡ refused f
   pub lookup-refuses : (group key : List ℕ) → lookup file group key ≡ refused f
   pub choose-refuses : (group key locale : List ℕ) → choose file group key locale ≡ refused f
   pub expand-refuses : (locale location list : List ℕ) (run : ℕ) → expand file locale location list run ≡ refused f
   pub edits-refuse : (s : State) (c : Call) → lendsFile c ≡ true → lengthsFit s ≡ true → content s ≡ file → stateCall s c ≡ refused f
+  pub batch-refuses : (s : State) (author : Author) (list : List ℕ) → lengthsFit s ≡ true → content s ≡ file → batch s author list ≡ nothing s (some f)
 
 -- the check's refusal is passed on by all of them
 unfoldable pub CheckPassedOn : Type 0

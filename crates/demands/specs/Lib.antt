@@ -5,6 +5,7 @@ pub mod Merge
 pub mod Book
 pub mod Demand3
 pub mod Persons
+pub mod Batches
 pub mod Contracts
 pub mod Examples
 pub mod Commands

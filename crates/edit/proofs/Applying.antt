@@ -1,5 +1,5 @@
 -- An edit written to the journal and made in the file. Assumes nothing.
-use mathlib.Core.Path.{_≡_, refl, ap, _∙_}
+use mathlib.Core.Path.{_≡_, refl, sym, ap, _∙_}
 use mathlib.Core.Bool.{Bool, true, false, _&&_}
 use mathlib.Core.List.{List, _++_}
 use Prim.Native.Nat.{ℕ, _+_, _-_, _≤_, _<_}
@@ -17,7 +17,7 @@ use Rattle.record.proofs.Numbers.{length-number}
 use Rattle.record.proofs.Sizes.{length-head}
 use Rattle.fault.specs.declared.Fault.{Fault}
 use Rattle.fault.specs.declared.Fault.the-variants.{NoRoom, JournalFull}
-use Rattle.fault.specs.Answer.{Answer, given, refused, _>>=_, need}
+use Rattle.fault.specs.Answer.{Answer, given, refused, _>>=_, need, atExit}
 use Rattle.base.proofs.Tests.{no}
 use Rattle.splice.specs.Edit.{Edit, replaced, spliced, bufferWith}
 use Rattle.journal.specs.Journal.{Author, Authored, by, frontLength, Journal, editRecord, editLength}
@@ -25,11 +25,11 @@ use Rattle.journal.specs.Walk.{editFront}
 use Rattle.journal.proofs.Records.{front-length}
 use Rattle.journal.proofs.Front.{record-front}
 use Rattle.change.specs.Change.{Request, editOf}
-use Rattle.change.specs.Target.{newBytes, editBy, Meets}
+use Rattle.change.specs.Target.{newBytes, editBy}
 use Rattle.change.specs.declared.Target.{Target}
 use Rattle.change.specs.declared.Target.the-variants.{Value, Entry, Line as Gone}
 use Rattle.edit.specs.Calls.{State, content, opened, fileFits, recordFits, applied, request}
-use Rattle.edit.specs.Step.{lent, passed, appliedBy, Made}
+use Rattle.edit.specs.Step.{Numbers, lent, told, passed, appliedBy, Made}
 use Rattle.edit.specs.declared.Edited.{Edited}
 use Rattle.edit.specs.declared.Edited.the-variants.{Done, Refused}
 
@@ -189,13 +189,35 @@ module _ (s : State) (q : Authored Request) where
       go (given j) h = no (cc)
       go (refused g) h = let w : f ≡ g = cc in rw w (record { answer = refl; file-is = refl; journal-is = refl })
 
-  -- opened: the target's edit is the request's
-  pub was-opened : given tt ≡ passed (opened s) → {key text : List ℕ} {t : Target} {r : Edited} {file journal : List ℕ} → Meets (content s) key text (editOf (content s) (q .what)) t
-      → Made (lent (s .file) (s .size) (s .journal) 0 (s .standing)) (appliedBy (lent (s .file) (s .size) (s .journal) 0 (s .standing)) (q .author) (editBy (content s) key text t)) r file journal
+  -- opened: the request is the edit's
+  pub was-opened : given tt ≡ passed (opened s) → {r : Edited} {file journal : List ℕ}
+      → Made (lent (s .file) (s .size) (s .journal) 0 (s .standing)) (appliedBy (lent (s .file) (s .size) (s .journal) 0 (s .standing)) (q .author) (editOf (content s) (q .what))) r file journal
       → Made s (request s q) r file journal
   unfolding request
-  was-opened e {key} {text} {t} {r} {file} {journal} w m = go (opened s) e
+  was-opened e {r} {file} {journal} m = go (opened s) e
     where
       go : (o : Answer Journal) → given tt ≡ passed o → Made s (o >>= λ _. appliedBy s (q .author) (editOf (content s) (q .what))) r file journal
-      go (given j) h = rw (← w .is) (used-free s 0 (q .author) (editBy (content s) key text t) m)
+      go (given j) h = used-free s 0 (q .author) (editOf (content s) (q .what)) m
       go (refused g) h = no (cc)
+
+-- ---- what a call that was made says of its answer
+
+module _ {s : State} {a : Answer State} {file journal : List ℕ} where
+  pub made-done : {size used standing : ℕ} → Made s a (Done size used standing) file journal → a ≡ given (lent file size journal used standing)
+  made-done {size} {used} {standing} m = go a (m .answer) (m .file-is) (m .journal-is)
+    where
+      go : (a : Answer State) → given (record { size = size; used = used; standing = standing }) ≡ told a → file ≡ atExit s a .file → journal ≡ atExit s a .journal
+          → a ≡ given (lent file size journal used standing)
+      go (refused f) h f-is j-is = no (cc)
+      go (given t) h f-is j-is =
+          let x : Numbers = record { size = t .size; used = t .used; standing = t .standing } in
+          let y : Numbers = record { size = size; used = used; standing = standing } in
+          let n : x ≡ y = cc in
+          λ i. given (record { file = sym f-is i; size = n i .size; journal = sym j-is i; used = n i .used; standing = n i .standing })
+
+  pub made-refused : {f : Fault} → Made s a (Refused f) file journal → (a ≡ refused f) × (file ≡ s .file) × (journal ≡ s .journal)
+  made-refused {f} m = go a (m .answer) (m .file-is) (m .journal-is)
+    where
+      go : (a : Answer State) → refused f ≡ told a → file ≡ atExit s a .file → journal ≡ atExit s a .journal → (a ≡ refused f) × (file ≡ s .file) × (journal ≡ s .journal)
+      go (given t) h f-is j-is = no (cc)
+      go (refused g) h f-is j-is = (ap refused (cc), f-is, j-is)

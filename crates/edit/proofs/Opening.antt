@@ -22,7 +22,7 @@ use Rattle.journal.specs.Journal.{Journal, readJournal}
 use Rattle.journal.specs.Lent.{numbersFit, journalIn}
 use Rattle.journal.proofs.Numbers.{Bounds, numbers-bounds}
 use Rattle.edit.specs.Calls.{State, content, journalOf, lengthsFit, opened}
-use Rattle.edit.specs.Step.{readied, passed}
+use Rattle.edit.specs.Step.{readied, passed, Ready}
 
 module _ (s : State) where
   pub size-over : length (s .file) < s .size → refused Damaged ≡ readied s
@@ -42,10 +42,8 @@ module _ (s : State) where
 
 -- the numbers lie in their bounds, no line of the file is bad, and it is not too long
 pub record Fits (s : State) : Type 0 where
-  pub size-fits : s .size ≤ length (s .file)
   pub numbers : Bounds (journalOf s)
-  pub none-bad : noneBad (content s) ≡ true
-  pub size-bound : s .size ≤ 32768
+  pub ready : Ready (s .file) (s .size) (s .standing)
 
 pub ready-fits : (s : State) → given tt ≡ readied s → Fits s
 unfolding readied lengthsFit
@@ -54,11 +52,15 @@ ready-fits s e =
     let a = and-both (leb (s .size) (length (s .file))) (numbersFit (journalOf s)) (b .0) in
     let f = leb-true (s .size) (length (s .file)) (a .0) in
     let g = check-good desktopEntry (content s) (sym (b .1)) in
+    let n = numbers-bounds (journalOf s) (a .1) in
     record {
-      size-fits = f;
-      numbers = numbers-bounds (journalOf s) (a .1);
-      none-bad = g .0;
-      size-bound = omega (arith, length-take-le (s .size) (s .file) f, g .1);
+      numbers = n;
+      ready = record {
+        size-fits = f;
+        size-bound = omega (arith, length-take-le (s .size) (s .file) f, g .1);
+        standing-bound = omega (arith, n .standing-fits, n .used-bound);
+        none-bad = g .0;
+      };
     }
 
 -- what every call asks first, in two steps
@@ -98,3 +100,6 @@ module _ (s : State) where
       go : (a : Answer (Unit {0})) → passed (a >>= λ _. journalIn (journalOf s)) ≡ given tt → given tt ≡ a
       go (given tt) h = refl
       go (refused f) h = no (cc)
+
+pub opened-fits : (s : State) → given tt ≡ passed (opened s) → Fits s
+opened-fits s e = ready-fits s (opened-ready s e)

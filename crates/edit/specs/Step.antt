@@ -1,14 +1,16 @@
 -- What the functions of this crate answer, by the definitions of the four calls. Assumes nothing.
 use mathlib.Core.Path.{_≡_}
-use Prim.Native.Nat.{ℕ}
+use Prim.Native.Nat.{ℕ, _≤_}
+use mathlib.Core.Bool.{true}
 use mathlib.Core.List.{List}
-use lib.ListN.{length}
+use lib.ListN.{length, take}
 use Rattle.fault.specs.declared.Fault.the-variants.{Damaged, NoRoom}
 use Rattle.fault.specs.Answer.{Answer, given, refused, _>>=_, need, then, atExit}
-use Rattle.wellformed.specs.Check.{check}
+use Rattle.rows.specs.Find.{noneBad}
+use Rattle.wellformed.specs.Check.{fileMost, check}
 use Rattle.wellformed.specs.WellFormed.{wellFormed}
 use Rattle.splice.specs.Edit.{Edit, spliced, stands, bufferWith}
-use Rattle.journal.specs.Journal.{Author, by}
+use Rattle.journal.specs.Journal.{Author, by, journalMost}
 use Rattle.edit.specs.Calls.{State, content, lengthsFit, fileFits, applied}
 use Rattle.edit.specs.declared.Edited.{Edited}
 use Rattle.edit.specs.declared.Edited.the-variants as edited
@@ -44,6 +46,14 @@ unfoldable pub readied : State → Answer (Unit {0})
 readied s = do
   _ ← need (lengthsFit s) Damaged
   check (content s)
+
+-- what a set or remove needs of a file and a journal that were opened: the file lies in its buffer, is not too long and has no bad line, and what
+-- stands is not too long
+pub record Ready (file : List ℕ) (size standing : ℕ) : Type 0 where
+  pub size-fits : size ≤ length file
+  pub size-bound : size ≤ fileMost
+  pub standing-bound : standing ≤ journalMost
+  pub none-bad : noneBad (take size file) ≡ true
 
 -- the edit by which some bytes at a place go and others come
 abbrev pub swap : ℕ → List ℕ → List ℕ → Edit

@@ -189,8 +189,49 @@ fn apply(
     }
 }
 
+// A set in what was opened before.
+pub fn make_set(
+    file: &mut [u8],
+    size: usize,
+    journal: &mut [u8],
+    standing: usize,
+    person: u16,
+    group: &[u8],
+    key: &[u8],
+    text: &[u8],
+) -> Edited
+    requires { ⌜ step.Ready (now file) size standing ⌝ }
+    ensures { λ r. ⌜ step.Made (step.lent (now (file .entry)) size (now (journal .entry)) 0 standing)
+        (step.appliedBy (step.lent (now (file .entry)) size (now (journal .entry)) 0 standing) (Person person)
+        (request.editOf (take size (now (file .entry))) (request.Set (now (group .entry)) (now (key .entry)) (now (text .entry)))))
+        r (now (file .exit)) (now (journal .exit)) ⌝ }
+{
+    let t = change::set_target(&file[..size], group, key, text);
+    apply(file, size, journal, standing, person, key, text, t)
+}
+
+// A remove in what was opened before.
+pub fn make_remove(
+    file: &mut [u8],
+    size: usize,
+    journal: &mut [u8],
+    standing: usize,
+    person: u16,
+    group: &[u8],
+    key: &[u8],
+) -> Edited
+    requires { ⌜ step.Ready (now file) size standing ⌝ }
+    ensures { λ r. ⌜ step.Made (step.lent (now (file .entry)) size (now (journal .entry)) 0 standing)
+        (step.appliedBy (step.lent (now (file .entry)) size (now (journal .entry)) 0 standing) (Person person)
+        (request.editOf (take size (now (file .entry))) (request.Remove (now (group .entry)) (now (key .entry)))))
+        r (now (file .exit)) (now (journal .exit)) ⌝ }
+{
+    let t = change::remove_target(&file[..size], group, key, key);
+    apply(file, size, journal, standing, person, key, key, t)
+}
+
 // What every set and remove asks first: lengths (14), the file's own faults (1 to 6), the journal (14).
-fn check_lent(file: &[u8], size: usize, journal: &[u8], used: usize, standing: usize) -> Checked
+pub fn check_lent(file: &[u8], size: usize, journal: &[u8], used: usize, standing: usize) -> Checked
     ensures { λ r. ⌜ pass.answered r ≡ step.passed (calls.opened (step.lent (now (file .entry)) size (now (journal .entry)) used standing)) ⌝ }
 {
     match ready(file, size, journal, used, standing) {
@@ -222,10 +263,7 @@ pub fn set(
 {
     match check_lent(file, size, journal, used, standing) {
         Checked::Refused(f) => Edited::Refused(f),
-        Checked::Sound => {
-            let t = change::set_target(&file[..size], group, key, text);
-            apply(file, size, journal, standing, person, key, text, t)
-        }
+        Checked::Sound => make_set(file, size, journal, standing, person, group, key, text),
     }
 }
 
@@ -246,10 +284,7 @@ pub fn remove(
 {
     match check_lent(file, size, journal, used, standing) {
         Checked::Refused(f) => Edited::Refused(f),
-        Checked::Sound => {
-            let t = change::remove_target(&file[..size], group, key, key);
-            apply(file, size, journal, standing, person, key, key, t)
-        }
+        Checked::Sound => make_remove(file, size, journal, standing, person, group, key),
     }
 }
 

@@ -4,6 +4,7 @@ mod files; // files.rt: the check and completeness
 mod values; // values.rt: lookup and the choice of language
 mod texts; // texts.rt: text and value lists
 mod edits; // edits.rt: set, with room in the journal and without; two in either order; who made an edit
+mod batches; // batches.rt: many requests in one call
 mod commands; // commands.rt: the expansion of Exec
 
 fn main() {
@@ -24,6 +25,7 @@ fn main() {
     edits::sets(t);
     edits::orders(t);
     edits::journals();
+    batches::batches(t);
     commands::expansions(t);
     commands::commands_read();
 }

@@ -1,4 +1,5 @@
 // The words of the report, on standard output.
+use batch::Batched;
 use edit::Edited;
 use entry::Ends;
 use fault::Fault;
@@ -133,6 +134,14 @@ fn say_numbers(used: usize, standing: usize) {
     say_number(standing);
 }
 
+fn say_buffers(file: &[u8], journal: &[u8]) {
+    say(b", ");
+    quote(file);
+    say(b",");
+    spaced_bytes(journal);
+    say(b"\n");
+}
+
 // The answer of a call that edits, and both buffers.
 pub fn tell_edited(e: Edited, file: &[u8], journal: &[u8]) {
     match e {
@@ -148,11 +157,7 @@ pub fn tell_edited(e: Edited, file: &[u8], journal: &[u8]) {
         }
         Edited::Refused(f) => say_refused(f),
     }
-    say(b", ");
-    quote(file);
-    say(b",");
-    spaced_bytes(journal);
-    say(b"\n");
+    say_buffers(file, journal);
 }
 
 // The answer of the call for a person.
@@ -179,4 +184,39 @@ pub fn tell_forgot(f: Forgot, journal: &[u8]) {
     say(b",");
     spaced_bytes(journal);
     say(b"\n");
+}
+
+fn say_left(done: usize, size: usize, used: usize, standing: usize) {
+    say_number(done);
+    say(b" done, ");
+    say_number(size);
+    say(b" bytes, ");
+    say_numbers(used, standing);
+}
+
+// The answer of a batch, and both buffers.
+pub fn tell_batched(b: Batched, file: &[u8], journal: &[u8]) {
+    match b {
+        Batched::All {
+            done,
+            size,
+            used,
+            standing,
+        } => {
+            say(b": ");
+            say_left(done, size, used, standing);
+        }
+        Batched::Stopped {
+            fault,
+            done,
+            size,
+            used,
+            standing,
+        } => {
+            say_refused(fault);
+            say(b", ");
+            say_left(done, size, used, standing);
+        }
+    }
+    say_buffers(file, journal);
 }

@@ -17,9 +17,10 @@ use Rattle.base.proofs.Tests.{no, by-test}
 use Rattle.record.specs.Number.{numberOf}
 use Rattle.record.specs.Record.{Rec, recordLength, lengthAt, recordAt, whole, cut}
 use Rattle.record.proofs.Place.{whole-bounds}
-use Rattle.record.proofs.Cut.{cut-none, cut-step, cut-damaged-at}
+use Rattle.record.specs.Walk.{readAt}
+use Rattle.record.proofs.Each.{each-done, each-damaged, each-step}
 use Rattle.splice.specs.Edit.{Edit}
-use Rattle.journal.specs.Journal.{NoPerson, Person, Authored, by, editLength, editIn, readEdit, readEdits, nextOf, partedAt, readJournal}
+use Rattle.journal.specs.Journal.{NoPerson, Person, Authored, by, editLength, editIn, readEdit, nextOf, partedAt, readJournal}
 use Rattle.journal.specs.Walk.{editAt, edits, Follows}
 
 -- a choice that gave something passed its test
@@ -52,68 +53,37 @@ read-length r {e} h =
     rw (← m .2) (omega (arith, in-length (drop 2 (r .body)) (m .1), length-drop 2 (r .body))))
     (λ u. let z : none ≡ some e = rw (t, u) at h in no (cc)))
 
--- a whole record with an edit, before others
-first-none : (r : Rec) (o : Option (List Rec)) → readEdit r ≡ none → maybe (Option·map (λ rs. r ∷ rs) o) none readEdits ≡ none
-unfolding readEdits
-first-none r none h = refl
-first-none r (some rs) h = rw h
-
-first-some : (r : Rec) (o : Option (List Rec)) {e : Authored Edit} → readEdit r ≡ some e
-    → maybe (Option·map (λ rs. r ∷ rs) o) none readEdits ≡ Option·map (λ es. e ∷ es) (maybe o none readEdits)
-unfolding readEdits
-first-some r none h = refl
-first-some r (some rs) h = rw h
-
 head-of : (e : Authored Edit) (o : Option (List (Authored Edit))) {es : List (Authored Edit)} → Option·map (λ fs. e ∷ fs) o ≡ some es → nextOf es ≡ some e
 head-of e none h = no (cc)
 head-of e (some fs) {es} h = let z : e ∷ fs ≡ es = cc in rw (← z)
 
 module _ (s : List ℕ) (at : ℕ) where
-  -- the records behind the first
-  abbrev behind : Option (List Rec)
-  behind = cut (drop (lengthAt (drop at s)) (drop at s))
-
-  -- the end
-  pub edits-done : length s ≤ at → edits (drop at s) ≡ some []
-  unfolding edits readEdits
-  edits-done h = rw (done s at h, cut-none)
-
-  -- no edit
-  pub edits-damaged : at < length s → editAt s at ≡ none → edits (drop at s) ≡ none
-  unfolding edits editAt
-  edits-damaged h e =
+  -- its record is as long
+  pub at-length : {e : Authored Edit} → editAt s at ≡ some e → editLength e ≡ lengthAt (drop at s)
+  unfolding readAt
+  at-length {e} h =
       by-test (whole (drop at s))
-      (λ w. rw (cut-step (drop at s) w) (first-none (recordAt (drop at s)) behind (rw w at e)))
-      (λ w. rw (cut-damaged-at s at h w))
+      (λ w.
+      let b = whole-bounds (drop at s) w in
+      omega (arith, read-length (recordAt (drop at s)) (rw w at h), length-part 6 (lengthAt (drop at s)) (drop at s) (b .1)))
+      (λ w. let z : none ≡ some e = rw w at h in no (cc))
 
   -- an edit, and those behind its record
   pub edits-step : {e : Authored Edit} → editAt s at ≡ some e → edits (drop at s) ≡ Option·map (λ es. e ∷ es) (edits (drop (at + editLength e) s))
-  unfolding edits editAt
-  edits-step {e} h =
-      by-test (whole (drop at s))
-      (λ w.
-      let r : readEdit (recordAt (drop at s)) ≡ some e = rw w at h in
-      let b = whole-bounds (drop at s) w in
-      let n : editLength e ≡ lengthAt (drop at s) = omega (arith, read-length (recordAt (drop at s)) r, length-part 6 (lengthAt (drop at s)) (drop at s) (b .1)) in
-      rw (cut-step (drop at s) w, n, ← drop-drop (lengthAt (drop at s)) at s) (first-some (recordAt (drop at s)) behind r))
-      (λ w. let z : none ≡ some e = rw w at h in no (cc))
+  edits-step {e} h = let n = at-length h in each-step readEdit s at h ∙ rw (← n)
 
   -- the first of them
   pub edits-first : (es : List (Authored Edit)) → edits (drop at s) ≡ some es → Follows s at (nextOf es)
   edits-first es h =
       by-test (leb (length s) at)
-      (λ t. let l = leb-true _ _ t in let z : es ≡ [] = cc (edits-done l) in rw z l)
+      (λ t. let l = leb-true _ _ t in let z : es ≡ [] = cc (each-done readEdit s at l) in rw z l)
       (λ t. go (editAt s at) refl (leb-false _ _ t))
     where
       go : (o : Option (Authored Edit)) → editAt s at ≡ o → at < length s → Follows s at (nextOf es)
-      go none e l = no (cc (edits-damaged l e))
+      go none e l = no (cc (each-damaged readEdit s at l e))
       go (some f) e l = rw (head-of f (edits (drop (at + editLength f) s)) (sym (edits-step e) ∙ h)) e
 
 -- a journal by the edits of its bytes
 pub journal-by : (s : List ℕ) (standing : ℕ) → readJournal s standing ≡ maybe (edits s) none (partedAt standing [])
-unfolding readJournal edits
-journal-by s standing = go (cut s)
-  where
-    go : (o : Option (List Rec)) → maybe o none (λ rs. maybe (readEdits rs) none (partedAt standing [])) ≡ maybe (maybe o none readEdits) none (partedAt standing [])
-    go none = refl
-    go (some rs) = refl
+unfolding readJournal
+journal-by s standing = refl

@@ -14,10 +14,10 @@ use Rattle.fault.specs.declared.Fault.the-variants.{Damaged, NothingLeft}
 use Rattle.fault.specs.Answer.{given, refused, accepted}
 use Rattle.fault.proofs.Answers.{given-is, accepted-given}
 use Rattle.record.specs.declared.Bounds.the-variants as bounds
-use Rattle.record.specs.Record.{Rec, recordLength}
+use Rattle.record.specs.Record.{Rec, recordLength, readEach}
 use Rattle.record.specs.Walk.{boundsFrom, nthOf}
 use Rattle.splice.specs.Edit.{Edit, replaced, bufferWith}
-use Rattle.journal.specs.Journal.{Authored, lengths, readEdits, Journal, oldest, inOrder, readJournal}
+use Rattle.journal.specs.Journal.{readEdit, Authored, lengths, Journal, oldest, inOrder, readJournal}
 use Rattle.journal.specs.Lent.{Lent, lent, usedOf, opened, without, forget, leftIn, Forgets}
 use Rattle.journal.specs.Walk.{EndsOldest}
 use Rattle.journal.specs.declared.Oldest.the-variants.{End, Fewer}
@@ -32,7 +32,7 @@ use Rattle.journal.proofs.Forgotten.{forget-shut, forget-is, forget-lac
 
 -- ---- where the first records end
 
-end-from : (rs : List Rec) (es : List (Authored Edit)) (n at : ℕ) {from to : ℕ} → readEdits rs ≡ some es → boundsFrom rs n at ≡ bounds.Body from to
+end-from : (rs : List Rec) (es : List (Authored Edit)) (n at : ℕ) {from to : ℕ} → readEach readEdit rs ≡ some es → boundsFrom rs n at ≡ bounds.Body from to
     → (to ≡ at + lengths (take (suc n) es)) × (n < length es)
 unfolding boundsFrom
 end-from [] es n at r h = no (cc)
@@ -45,7 +45,7 @@ end-from (q ∷ qs) es (suc n) at r h =
     let i = end-from qs (k .others) n (at + recordLength (q .body)) (k .reads-others) h in
     rw (k .is) (omega (arith, i .0, read-length q (k .reads)), omega (arith, i .1))
 
-fewer-from : (rs : List Rec) (es : List (Authored Edit)) (n at : ℕ) → readEdits rs ≡ some es → boundsFrom rs n at ≡ bounds.Missing → length es ≤ n
+fewer-from : (rs : List Rec) (es : List (Authored Edit)) (n at : ℕ) → readEach readEdit rs ≡ some es → boundsFrom rs n at ≡ bounds.Missing → length es ≤ n
 unfolding boundsFrom
 fewer-from [] es n at r h = rw (none-read r) (omega arith)
 fewer-from (q ∷ qs) es zero at r h = no (cc)

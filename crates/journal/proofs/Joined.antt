@@ -10,13 +10,13 @@ use lib.Dec.{eqb, leb}
 use borrow.Author.Tests.{eqb-true, leb-true}
 use Rattle.base.specs.Choice.{pick, maybe}
 use Rattle.base.proofs.Tests.{no}
-use Rattle.record.specs.Record.{Rec, recordBytes, cut}
+use Rattle.record.specs.Record.{Rec, recordBytes, cut, readEach, readRecords}
 use Rattle.record.proofs.Back.{cut-record}
 use Rattle.record.proofs.Sizes.{listLength}
 use Rattle.record.proofs.Cut.{cut-none}
 use Rattle.record.proofs.Parted.{cut-join, cut-parted, cut-length}
 use Rattle.splice.specs.Edit.{Edit}
-use Rattle.journal.specs.Journal.{Authored, editRecord, editLength, lengths, readEdit, readEdits, Journal, inOrder, partedAt, readJournal}
+use Rattle.journal.specs.Journal.{Authored, editRecord, editLength, lengths, readEdit, Journal, inOrder, partedAt, readJournal}
 use Rattle.journal.specs.Walk.{edits}
 use Rattle.journal.proofs.Records.{Small, edit-fits, edit-back, parted, lengths-reverse, lengths-parted, order-parted}
 use Rattle.journal.proofs.Edits.{read-length, journal-by}
@@ -29,23 +29,23 @@ pub record Cons (r : Rec) (rs : List Rec) (es : List (Authored Edit)) : Type 0 w
   pub others : List (Authored Edit)
   pub is : es ≡ edit ∷ others
   pub reads : readEdit r ≡ some edit
-  pub reads-others : readEdits rs ≡ some others
+  pub reads-others : readEach readEdit rs ≡ some others
 
-pub cons : (r : Rec) (rs : List Rec) (es : List (Authored Edit)) → readEdits (r ∷ rs) ≡ some es → Cons r rs es
-unfolding readEdits
-cons r rs es h = go (readEdit r) (readEdits rs) refl refl h
+pub cons : (r : Rec) (rs : List Rec) (es : List (Authored Edit)) → readEach readEdit (r ∷ rs) ≡ some es → Cons r rs es
+unfolding readEach
+cons r rs es h = go (readEdit r) (readEach readEdit rs) refl refl h
   where
-    go : (o : Option (Authored Edit)) (p : Option (List (Authored Edit))) → readEdit r ≡ o → readEdits rs ≡ p → maybe o none (λ e. Option·map (λ fs. e ∷ fs) p) ≡ some es → Cons r rs es
+    go : (o : Option (Authored Edit)) (p : Option (List (Authored Edit))) → readEdit r ≡ o → readEach readEdit rs ≡ p → maybe o none (λ e. Option·map (λ fs. e ∷ fs) p) ≡ some es → Cons r rs es
     go none p x y z = no (cc)
     go (some e) none x y z = no (cc)
     go (some e) (some fs) x y z = let i : e ∷ fs ≡ es = cc in record { edit = e; others = fs; is = sym i; reads = x; reads-others = y }
 
-pub none-read : {es : List (Authored Edit)} → readEdits [] ≡ some es → es ≡ []
-unfolding readEdits
+pub none-read : {es : List (Authored Edit)} → readEach readEdit [] ≡ some es → es ≡ []
+unfolding readEach
 none-read h = cc
 
-read-join : (rs qs : List Rec) (es fs : List (Authored Edit)) → readEdits rs ≡ some es → readEdits qs ≡ some fs → readEdits (rs ++ qs) ≡ some (es ++ fs)
-unfolding readEdits
+read-join : (rs qs : List Rec) (es fs : List (Authored Edit)) → readEach readEdit rs ≡ some es → readEach readEdit qs ≡ some fs → readEach readEdit (rs ++ qs) ≡ some (es ++ fs)
+unfolding readEach
 read-join [] qs es fs h k = rw (none-read h) k
 read-join (r ∷ rs) qs es fs h k = let c = cons r rs es h in rw (c .is, c .reads, read-join rs qs (c .others) fs (c .reads-others) k)
 
@@ -53,11 +53,11 @@ record Split (rs : List Rec) (es fs : List (Authored Edit)) : Type 0 where
   front : List Rec
   back : List Rec
   is : rs ≡ front ++ back
-  reads-front : readEdits front ≡ some es
-  reads-back : readEdits back ≡ some fs
+  reads-front : readEach readEdit front ≡ some es
+  reads-back : readEach readEdit back ≡ some fs
 
-read-split : (rs : List Rec) (es fs : List (Authored Edit)) → readEdits rs ≡ some (es ++ fs) → Split rs es fs
-unfolding readEdits
+read-split : (rs : List Rec) (es fs : List (Authored Edit)) → readEach readEdit rs ≡ some (es ++ fs) → Split rs es fs
+unfolding readEach
 read-split rs [] fs h = record { front = []; back = rs; is = refl; reads-front = refl; reads-back = h }
 read-split [] (e ∷ es) fs h = no (cc)
 read-split (r ∷ rs) (e ∷ es) fs h =
@@ -69,7 +69,7 @@ read-split (r ∷ rs) (e ∷ es) fs h =
     record { front = r ∷ s .front; back = s .back; is = ap (λ (qs : List Rec). r ∷ qs) (s .is); reads-front = rw (c .reads, s .reads-front) (ap (λ (d : Authored Edit). some (d ∷ es)) (sym x)); reads-back = s .reads-back }
 
 -- they are as long as their edits say
-read-lengths : (rs : List Rec) (es : List (Authored Edit)) → readEdits rs ≡ some es → listLength rs ≡ lengths es
+read-lengths : (rs : List Rec) (es : List (Authored Edit)) → readEach readEdit rs ≡ some es → listLength rs ≡ lengths es
 unfolding listLength
 read-lengths [] es h = rw (none-read h)
 read-lengths (r ∷ rs) es h = let c = cons r rs es h in rw (c .is) (omega (arith, read-length r (c .reads), read-lengths rs (c .others) (c .reads-others)))
@@ -80,19 +80,19 @@ read-lengths (r ∷ rs) es h = let c = cons r rs es h in rw (c .is) (omega (arit
 pub record Of (s : List ℕ) (es : List (Authored Edit)) : Type 0 where
   pub records : List Rec
   pub cuts : cut s ≡ some records
-  pub reads : readEdits records ≡ some es
+  pub reads : readEach readEdit records ≡ some es
 
 pub of : (s : List ℕ) (es : List (Authored Edit)) → edits s ≡ some es → Of s es
-unfolding edits
+unfolding readRecords
 of s es h = go (cut s) refl h
   where
-    go : (o : Option (List Rec)) → cut s ≡ o → maybe o none readEdits ≡ some es → Of s es
+    go : (o : Option (List Rec)) → cut s ≡ o → maybe o none (readEach readEdit) ≡ some es → Of s es
     go none x y = no (cc)
     go (some rs) x y = record { records = rs; cuts = x; reads = y }
 
 -- those of some bytes and then others
 edits-join : (x y : List ℕ) (es fs : List (Authored Edit)) → edits x ≡ some es → edits y ≡ some fs → edits (x ++ y) ≡ some (es ++ fs)
-unfolding edits
+unfolding readRecords
 edits-join x y es fs h k =
     let a = of x es h in
     let b = of y fs k in
@@ -100,7 +100,7 @@ edits-join x y es fs h k =
 
 -- the first of them, and the others
 edits-parted : (s : List ℕ) (es fs : List (Authored Edit)) → edits s ≡ some (es ++ fs) → (edits (take (lengths es) s) ≡ some es) × (edits (drop (lengths es) s) ≡ some fs)
-unfolding edits
+unfolding readRecords
 edits-parted s es fs h =
     let a = of s (es ++ fs) h in
     let b = read-split (a .records) es fs (a .reads) in
@@ -115,7 +115,7 @@ edits-length s es h =
 
 -- one edit's own record
 edits-one : (e : Authored Edit) → Small e → edits (recordBytes (editRecord e)) ≡ some (e ∷ [])
-unfolding edits readEdits
+unfolding readRecords readEach
 edits-one e h =
     let c : cut (recordBytes (editRecord e)) ≡ some (editRecord e ∷ []) = ap cut (sym (append-nil (recordBytes (editRecord e)))) ∙ cut-record (editRecord e) [] (edit-fits e h) ∙ rw cut-none in
     rw (c, edit-back e h)

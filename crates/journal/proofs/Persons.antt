@@ -17,12 +17,12 @@ use Rattle.fault.specs.Answer.{Answer, given, refused, accepted}
 use Rattle.fault.proofs.Answers.{accepted-given}
 use Rattle.record.specs.declared.Bounds.the-variants as bounds
 use Rattle.record.specs.Number.{numberOf}
-use Rattle.record.specs.Record.{Rec, recordLength, cut}
-use Rattle.record.specs.Walk.{boundsFrom, nthOf}
+use Rattle.record.specs.Record.{Rec, recordLength, cut, readEach, readRecords}
+use Rattle.record.specs.Walk.{boundsFrom, nthOf, readAt}
 use Rattle.record.proofs.Place.{Stands}
 use Rattle.record.proofs.Cut.{cut-some, cut-some-at}
 use Rattle.splice.specs.Edit.{Edit}
-use Rattle.journal.specs.Journal.{NoPerson, Person, Authored, by, personOf, editIn, readEdits, inOrder}
+use Rattle.journal.specs.Journal.{readEdit, NoPerson, Person, Authored, by, personOf, editIn, inOrder}
 use Rattle.journal.specs.Lent.{Lent, usedOf, opened, personIn, person}
 use Rattle.journal.specs.Walk.{editAt, edits}
 use Rattle.journal.proofs.Read.{edit-other, edit-bare, edit-person, edit-stub}
@@ -43,9 +43,9 @@ pub record Found (s : List ℕ) (es : List (Authored Edit)) (n from : ℕ) : Typ
   pub holds : editAt s at ≡ some edit
   pub is : getElem? es n ≡ some edit
 
-found-from : (s : List ℕ) (at : ℕ) (rs : List Rec) (es : List (Authored Edit)) (n : ℕ) {from to : ℕ} → cut (drop at s) ≡ some rs → readEdits rs ≡ some es
+found-from : (s : List ℕ) (at : ℕ) (rs : List Rec) (es : List (Authored Edit)) (n : ℕ) {from to : ℕ} → cut (drop at s) ≡ some rs → readEach readEdit rs ≡ some es
     → boundsFrom rs n at ≡ bounds.Body from to → Found s es n from
-unfolding boundsFrom editAt
+unfolding boundsFrom readAt
 found-from s at [] es n c r h = no (cc)
 found-from s at (q ∷ qs) es zero c r h =
     let w = cut-some (drop at s) c in
@@ -56,7 +56,7 @@ found-from s at (q ∷ qs) es (suc n) c r h =
     let f = found-from s (at + recordLength (q .body)) qs (k .others) n (cut-some-at s at c .others) (k .reads-others) h in
     record { at = f .at; kind = f .kind; end = f .end; edit = f .edit; begins = f .begins; stands = f .stands; holds = f .holds; is = ap (λ (x : List (Authored Edit)). getElem? x (suc n)) (k .is) ∙ f .is }
 
-missing-from : (rs : List Rec) (es : List (Authored Edit)) (n at : ℕ) → readEdits rs ≡ some es → boundsFrom rs n at ≡ bounds.Missing → getElem? es n ≡ none
+missing-from : (rs : List Rec) (es : List (Authored Edit)) (n at : ℕ) → readEach readEdit rs ≡ some es → boundsFrom rs n at ≡ bounds.Missing → getElem? es n ≡ none
 unfolding boundsFrom
 missing-from [] es n at r h = rw (none-read r)
 missing-from (q ∷ qs) es zero at r h = no (cc)

@@ -14,6 +14,7 @@ use Rattle.record.specs.Number.{numberOf}
 use Rattle.record.specs.Record.{Rec, whole}
 use Rattle.record.proofs.Place.{Stands}
 use Rattle.record.proofs.Cut.{body-at}
+use Rattle.record.specs.Walk.{readAt}
 use Rattle.journal.specs.Journal.{Author, NoPerson, Person, by, frontLength, editIn, readEdit}
 use Rattle.journal.specs.Walk.{editAt, ReadsBytes, Reads}
 use Rattle.journal.specs.declared.Next.{Next}
@@ -84,12 +85,12 @@ module _ (s : List ℕ) (from end : ℕ) (a : from ≤ end) (b : end ≤ length 
 -- ---- at a place
 
 pub no-edit : (s : List ℕ) (at : ℕ) → whole (drop at s) ≡ false → editAt s at ≡ none
-unfolding editAt
+unfolding readAt
 no-edit s at e = rw e
 
 module _ {s : List ℕ} {at kind end : ℕ} (r : Stands s at kind end) where
   edit-there : editAt s at ≡ readEdit (record { kind = kind; body = part (at + 6) end s })
-  unfolding editAt
+  unfolding readAt
   edit-there = rw (r .is-whole, body-at r, ← r .has-kind)
 
   pub edit-other : (kind ≡ 1 → ⊥) → (kind ≡ 4 → ⊥) → editAt s at ≡ none

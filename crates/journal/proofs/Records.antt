@@ -10,12 +10,12 @@ use borrow.Author.Tests.{eq-eqb, ne-eqb, le-leb}
 use Rattle.base.specs.Lists.{joined}
 use Rattle.base.proofs.Lists.{map-append}
 use Rattle.record.specs.Number.{littleEndian, numberOf}
-use Rattle.record.specs.Record.{recordBytes, recordLength, listBytes, cut}
+use Rattle.record.specs.Record.{recordBytes, recordLength, listBytes, cut, readEach, readRecords}
 use Rattle.record.proofs.Numbers.{fits-two, fits-four, number-back, length-number}
 use Rattle.record.proofs.Sizes.{length-record, list-cons, list-append}
 use Rattle.record.proofs.Back.{Fits, fits, FitsAll, no-record, one-more, cut-back}
 use Rattle.splice.specs.Edit.{Edit}
-use Rattle.journal.specs.Journal.{Author, NoPerson, Person, Authored, by, personOf, kindOf, authorBytes, editBytes, editRecord, frontLength, editLength, lengths, editIn, readEdit, readEdits, partedAt, readJournal}
+use Rattle.journal.specs.Journal.{Author, NoPerson, Person, Authored, by, personOf, kindOf, authorBytes, editBytes, editRecord, frontLength, editLength, lengths, editIn, readEdit, partedAt, readJournal}
 
 -- ---- one edit
 
@@ -101,8 +101,8 @@ all-fit : (es : List (Authored Edit)) → AllSmall es → FitsAll (map editRecor
 all-fit [] h = no-record
 all-fit (e ∷ es) h = one-more (edit-fits e (h .0)) (all-fit es (h .1))
 
-pub edits-back : (es : List (Authored Edit)) → AllSmall es → readEdits (map editRecord es) ≡ some es
-unfolding readEdits
+pub edits-back : (es : List (Authored Edit)) → AllSmall es → readEach readEdit (map editRecord es) ≡ some es
+unfolding readEach
 edits-back [] h = refl
 edits-back (e ∷ es) h = rw (edit-back e (h .0), edits-back es (h .1))
 
@@ -138,7 +138,7 @@ recorded-back es h = cut-back (all-fit es h)
 
 -- the journal of edits that stand and edits that wait
 pub journal-back : (es ws : List (Authored Edit)) → AllSmall (reverseAux es ws) → readJournal (recorded (reverseAux es ws)) (lengths es) ≡ some (record { stand = es; wait = ws })
-unfolding readJournal
+unfolding readJournal readRecords
 journal-back es ws h = rw (recorded-back (reverseAux es ws) h, edits-back (reverseAux es ws) h) (parted es ws)
 
 pub lengths-reverse : (es ws : List (Authored Edit)) → lengths (reverseAux es ws) ≡ lengths es + lengths ws

@@ -12,11 +12,13 @@ use Rattle.base.specs.Choice.{maybe, there}
 use Rattle.base.specs.Lists.{part}
 use Rattle.base.proofs.Lists.{length-part}
 use Rattle.base.proofs.Tests.{no}
+use Rattle.record.specs.Record.{lengthAt}
+use Rattle.record.proofs.Each.{each-done, each-damaged}
 use Rattle.splice.specs.Edit.{Edit}
-use Rattle.journal.specs.Journal.{Authored, by, editLength, partedAt, readJournal, nextOf}
+use Rattle.journal.specs.Journal.{Authored, by, editLength, readEdit, partedAt, readJournal, nextOf}
 use Rattle.journal.specs.Walk.{editAt, Holds, edits, Latest, Parted}
 use Rattle.journal.proofs.Records.{front-least, parted-here}
-use Rattle.journal.proofs.Edits.{journal-by, edits-done, edits-damaged, edits-step, edits-first}
+use Rattle.journal.proofs.Edits.{at-length, journal-by, edits-step, edits-first}
 
 -- ---- a record that was read
 
@@ -32,32 +34,13 @@ module _ {s : List ℕ} {at place old new end : ℕ} (r : Holds s at place old n
   pub further : at < end
   further = omega (arith, authored-length, front-least (r .author))
 
+  -- it ends where its length says
+  pub ends-record : end ≡ at + lengthAt (drop at s)
+  ends-record = omega (arith, authored-length, at-length s at (r .edit))
+
   -- those from its end on are left
   pub edits-behind : edits (drop at s) ≡ Option·map (λ es. authored ∷ es) (edits (drop end s))
   edits-behind = edits-step s at (r .edit) ∙ rw authored-length
-
--- ---- whether records of edits fill the bytes from a place on
-
-there-map : {A B : Type 0} (f : A → B) (o : Option A) → there (Option·map f o) ≡ there o
-there-map f none = refl
-there-map f (some a) = refl
-
--- those from another place on decide
-pub record Filling (s : List ℕ) (from at : ℕ) : Type 0 where
-  pub same : there (edits (drop at s)) ≡ there (edits (drop from s))
-
-pub fill-begin : (s : List ℕ) (from : ℕ) → Filling s from from
-fill-begin s from = record { same = refl }
-
-module _ {s : List ℕ} {from at : ℕ} (w : Filling s from at) where
-  pub fill-damaged : at < length s → editAt s at ≡ none → false ≡ there (edits (drop from s))
-  fill-damaged h e = rw (edits-damaged s at h e) at (w .same)
-
-  pub fill-next : {place old new end : ℕ} → Holds s at place old new end → Filling s from end
-  fill-next {end = end} r = record { same = sym (there-map _ (edits (drop end s))) ∙ rw (edits-behind r) at (w .same) }
-
-  pub fill-done : length s ≤ at → true ≡ there (edits (drop from s))
-  fill-done h = rw (edits-done s at h) at (w .same)
 
 -- ---- the records that stand
 
@@ -91,10 +74,10 @@ parted-short n stand p = rw (ne-eqb n 0 (λ z. omega arith))
 
 module _ {s : List ℕ} {standing at last : ℕ} (w : Walking s standing at last) where
   pub walk-damaged : at < length s → editAt s at ≡ none → readJournal s standing ≡ none
-  walk-damaged h e = w .same ∙ rw (edits-damaged s at h e)
+  walk-damaged h e = w .same ∙ rw (each-damaged readEdit s at h e)
 
   pub walk-short : at < standing → length s ≤ at → readJournal s standing ≡ none
-  walk-short h k = w .same ∙ rw (edits-done s at k) (parted-short (standing - at) (w .stand) (omega arith))
+  walk-short h k = w .same ∙ rw (each-done readEdit s at k) (parted-short (standing - at) (w .stand) (omega arith))
 
   module _ {place old new end : ℕ} (r : Holds s at place old new end) where
     pub walk-beyond : at < standing → standing < end → readJournal s standing ≡ none

@@ -7,7 +7,7 @@ use lib.Dec.{eqb, leb}
 use Rattle.base.specs.Choice.{pick, maybe}
 use Rattle.base.specs.Lists.{part}
 use Rattle.record.specs.Number.{littleEndian, numberOf}
-use Rattle.record.specs.Record.{Rec, cut}
+use Rattle.record.specs.Record.{Rec, readRecords}
 use Rattle.splice.specs.Edit.{Edit}
 
 -- the most bytes of a journal
@@ -82,11 +82,6 @@ readEdit r =
     pick (eqb (r .kind) 1) (Option·map (by NoPerson) (editIn (r .body)))
     (pick (eqb (r .kind) 4) (Option·map (by (Person (numberOf (take 2 (r .body))))) (editIn (drop 2 (r .body)))) none)
 
--- all the edits, or none if a record is damaged
-unfoldable pub readEdits : List Rec → Option (List (Authored Edit))
-readEdits [] = some []
-readEdits (r ∷ rs) = maybe (readEdit r) none (λ e. Option·map (λ es. e ∷ es) (readEdits rs))
-
 -- a journal's edits: those standing, the latest first, and those undone, which wait, the next first
 pub record Journal : Type 0 where
   pub stand : List (Authored Edit)
@@ -105,7 +100,7 @@ partedAt n stand (e ∷ es) =
 
 -- the journal in the used bytes; none: damaged
 unfoldable pub readJournal : List ℕ → ℕ → Option Journal
-readJournal used standing = maybe (cut used) none (λ rs. maybe (readEdits rs) none (partedAt standing []))
+readJournal used standing = maybe (readRecords readEdit used) none (partedAt standing [])
 
 -- the first of some edits
 abbrev pub nextOf : List (Authored Edit) → Option (Authored Edit)

@@ -4,14 +4,14 @@ use Prim.Native.Nat.{ℕ, _+_, _-_, _≤_, _<_}
 use mathlib.Core.Option.{Option, none, some}
 use mathlib.Core.List.{List, _++_}
 use lib.ListN.{length, drop}
-use Rattle.base.specs.Choice.{pick, maybe}
 use Rattle.base.specs.Lists.{part}
 use Rattle.fault.specs.declared.Fault.the-variants.{Damaged, NothingLeft}
 use Rattle.fault.specs.Answer.{Answer, given, refused, _>>=_, some-or, then}
 use Rattle.record.specs.Number.{littleEndian}
-use Rattle.record.specs.Record.{headBytes, recordAt, whole, cut}
+use Rattle.record.specs.Record.{headBytes, readRecords}
+use Rattle.record.specs.Walk.{readAt}
 use Rattle.splice.specs.Edit.{Edit}
-use Rattle.journal.specs.Journal.{Author, Authored, by, kindOf, authorBytes, frontLength, editLength, lengths, Journal, oldest, editIn, readEdit, readEdits, readJournal, nextOf}
+use Rattle.journal.specs.Journal.{Author, Authored, by, kindOf, authorBytes, frontLength, editLength, lengths, Journal, oldest, editIn, readEdit, readJournal, nextOf}
 use Rattle.journal.specs.Lent as lent
 use Rattle.journal.specs.Lent.{personIn}
 use Rattle.journal.specs.declared.Oldest.{Oldest}
@@ -68,8 +68,8 @@ editFront author place old new =
 -- ---- one record
 
 -- the edit in the record at a place; none: damaged
-unfoldable pub editAt : List ℕ → ℕ → Option (Authored Edit)
-editAt s at = pick (whole (drop at s)) (readEdit (recordAt (drop at s))) none
+abbrev pub editAt : List ℕ → ℕ → Option (Authored Edit)
+editAt s at = readAt readEdit s at
 
 -- what is read of an edit's bytes, which stand from a place up to the record's end; where the record starts is handed on
 abbrev pub ReadsBytes : List ℕ → (start from end : ℕ) → Next → Type 0
@@ -98,8 +98,8 @@ Reads s at (next.Edit start place old new end) = (start ≡ at) × Holds s at pl
 -- ---- all records
 
 -- the edits whose records fill the bytes; none: damaged
-unfoldable pub edits : List ℕ → Option (List (Authored Edit))
-edits s = maybe (cut s) none readEdits
+abbrev pub edits : List ℕ → Option (List (Authored Edit))
+edits s = readRecords readEdit s
 
 -- the record of the latest edit begins at a place and ends at another; where there is none, that is the start
 abbrev pub Latest : List ℕ → ℕ → ℕ → Option (Authored Edit) → Type 0

@@ -11,8 +11,11 @@ use Rattle.journal.specs.declared.Forgot.the-variants as forgot
 use Rattle.edit.specs.Calls.{State}
 use Rattle.edit.specs.Step.{answered, told, Made}
 use Rattle.edit.specs.declared.Edited.{Edited}
+use Rattle.batch.specs.Batch as batch
+use Rattle.batch.specs.Batch.{Batch}
+use Rattle.batch.specs.declared.Batched.{Batched}
 use Rattle.kveldrim.proofs.NoByte.{forget-zero}
-use Rattle.kveldrim.specs.Abi.{codeOf, placeIn, byteIn, writtenIn, Returned, ReturnedNumber, ReturnedEnds, ReturnedNumbers, Called, CalledOnJournal}
+use Rattle.kveldrim.specs.Abi.{codeOf, placeIn, byteIn, writtenIn, Returned, ReturnedNumber, ReturnedEnds, ReturnedNumbers, Called, CalledBatch, CalledOnJournal}
 
 -- ---- the same is seen of equal answers
 
@@ -71,6 +74,13 @@ called {s} {a} {e} {code} {place} {byte} {size} {used} {standing} m t =
       file-is = m .file-is;
       journal-is = m .journal-is;
     }
+
+-- ---- many requests
+
+pub called-batch : {b : Batch} {r : Batched} {code place byte done size used standing : ℕ} {file journal : List ℕ} → batch.Made b r file journal
+    → ((file journal : List ℕ) → CalledBatch (batch.answered r file journal) code place byte done size used standing file journal)
+    → CalledBatch b code place byte done size used standing file journal
+called-batch {file = file} {journal = journal} m t = rw (m .is) at (t file journal)
 
 -- ---- forgetting
 

@@ -4,15 +4,16 @@ use mathlib.Core.Path.{_≡_}
 use Prim.Native.Nat.{ℕ}
 use mathlib.Core.List.{List}
 use Rattle.fault.specs.Table.{numberOf, placeOf, byteOf}
-use Rattle.fault.specs.Answer.{Answer, given, refused, atExit}
+use Rattle.fault.specs.Answer.{Answer, given, refused, unless, atExit}
 use Rattle.entry.specs.Lookup.{Extent}
 use Rattle.journal.specs.Lent.{Lent}
 use Rattle.edit.specs.Calls.{State}
-use Rattle.edit.specs.Step.{Numbers}
+use Rattle.edit.specs.Step.{Numbers, lent}
+use Rattle.batch.specs.Batch.{Batch}
 
 -- the number of the C interface, raised whenever a call is new or its signature changes
 abbrev pub abi : ℕ
-abi = 3
+abi = 4
 
 -- the refusal's number, 0 if accepted
 abbrev pub codeOf : {A : Type 0} → Answer A → ℕ
@@ -59,6 +60,12 @@ pub record Called (s : State) (a : Answer State) (code place byte size used stan
   pub standing-is : standing ≡ atExit s a .standing
   pub file-is : file ≡ atExit s a .file
   pub journal-is : journal ≡ atExit s a .journal
+
+-- of the call with many requests: the refusal that stopped it, how many were done, and the three numbers and both buffers then
+pub record CalledBatch (b : Batch) (code place byte done size used standing : ℕ) (file journal : List ℕ) : Type 0 where
+  pub returned : Returned (unless (b .stopped)) code place byte
+  pub done-is : done ≡ b .done
+  pub left : lent file size journal used standing ≡ b .state
 
 -- of the call that forgets, which tells no byte: the journal with its two numbers, as it returns
 pub record CalledOnJournal (s : Lent) (a : Answer Lent) (code place : ℕ) (t : Lent) : Type 0 where

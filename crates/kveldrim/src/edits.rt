@@ -1,13 +1,18 @@
-// The calls that edit, the one that tells who edited, and the one that forgets. The numbers go in and come out; a refusal leaves them and every lent byte.
+// The calls that edit, the one that tells who edited, and the one that forgets. The numbers go in and come out; a refusal leaves them and every lent byte,
+// but that of a batch, which leaves what was done before it.
+use batch::Batched;
 use edit::Edited;
 use journal::Forgot;
 use journal::Named;
+ghost use Prim.Native.Nat.{ℕ};
+ghost use mathlib.Core.List.{List};
 ghost use Rattle.change.specs.Change.{Set, Remove};
 ghost use Rattle.journal.specs.Journal.{Person, by};
 ghost use Rattle.journal.specs.Lent as alone;
 ghost use Rattle.edit.specs.Calls.{request, undo, redo};
 ghost use Rattle.edit.specs.Step.{lent, answered};
-ghost use Rattle.kveldrim.specs.Abi.{ReturnedNumber, ReturnedNumbers, Called, CalledOnJournal};
+ghost use Rattle.batch.specs.Batch as batch;
+ghost use Rattle.kveldrim.specs.Abi.{ReturnedNumber, ReturnedNumbers, Called, CalledBatch, CalledOnJournal};
 
 // The answer of a call that edits.
 fn tell_edited(
@@ -127,6 +132,73 @@ pub extern "C" fn kveldrim_redo(
     let n = *standing as usize;
     let e = edit::redo(file, length, journal, u, n);
     tell_edited(e, size, used, standing, place, byte)
+}
+
+// The answer of a batch. What was done and the numbers left are written also where it was stopped.
+fn tell_batched(
+    b: Batched,
+    size: &mut u64,
+    used: &mut u64,
+    standing: &mut u64,
+    place: &mut u64,
+    byte: &mut u64,
+    done: &mut u64,
+) -> u32
+    ensures { λ r. ⌜ ((file journal : List ℕ) → CalledBatch (batch.answered b file journal) r (now (place .exit)) (now (byte .exit)) (now (done .exit))
+        (now (size .exit)) (now (used .exit)) (now (standing .exit)) file journal) ⌝ }
+{
+    match b {
+        Batched::All {
+            done: d,
+            size: length,
+            used: u,
+            standing: n,
+        } => {
+            *done = d as u64;
+            *size = length as u64;
+            *used = u as u64;
+            *standing = n as u64;
+            *place = 0;
+            *byte = 0;
+            0
+        }
+        Batched::Stopped {
+            fault,
+            done: before,
+            size: length,
+            used: u,
+            standing: n,
+        } => {
+            *done = before as u64;
+            *size = length as u64;
+            *used = u as u64;
+            *standing = n as u64;
+            crate::refuse(fault, place, byte)
+        }
+    }
+}
+
+#[no_mangle]
+pub extern "C" fn kveldrim_batch(
+    file: &mut [u8],
+    size: &mut u64,
+    journal: &mut [u8],
+    used: &mut u64,
+    standing: &mut u64,
+    person: u16,
+    requests: &[u8],
+    place: &mut u64,
+    byte: &mut u64,
+    done: &mut u64,
+) -> u32
+    ensures { λ r. ⌜ CalledBatch (batch.batch (lent (now (file .entry)) (now (size .entry)) (now (journal .entry)) (now (used .entry)) (now (standing .entry))) (Person person) (now (requests .entry)))
+        r (now (place .exit)) (now (byte .exit)) (now (done .exit)) (now (size .exit)) (now (used .exit)) (now (standing .exit)) (now (file .exit)) (now (journal .exit)) ⌝ }
+{
+    let length = *size as usize;
+    let u = *used as usize;
+    let n = *standing as usize;
+    let b = batch::batch(file, length, journal, u, n, person, requests);
+    tell_batched(b, size, used, standing, place, byte, done)
 }
 
 // The answer of the call for a person.

@@ -57,7 +57,7 @@ fn tell_checked(c: Checked, place: &mut u64, byte: &mut u64) -> u32
     }
 }
 
-const ABI: u32 = 3;
+const ABI: u32 = 4;
 
 #[no_mangle]
 pub extern "C" fn kveldrim_abi() -> u32

@@ -72,6 +72,15 @@ bodiesOf kind rs = pick (all (λ r. eqb (r .kind) kind) rs) (some (map (λ r. r 
 unfoldable pub readList : ℕ → ℕ → List ℕ → Option (List (List ℕ))
 readList kind most s = pick (leb (length s) most) (maybe (cut s) none (bodiesOf kind)) none
 
+-- what each of some records holds; none: one cannot be read
+unfoldable pub readEach : {A : Type 0} → (Rec → Option A) → List Rec → Option (List A)
+readEach read [] = some []
+readEach read (r ∷ rs) = maybe (read r) none (λ a. Option·map (λ xs. a ∷ xs) (readEach read rs))
+
+-- the same of the records that fill the bytes; none: damaged
+unfoldable pub readRecords : {A : Type 0} → (Rec → Option A) → List ℕ → Option (List A)
+readRecords read s = maybe (cut s) none (readEach read)
+
 -- the most bytes of a list where no other bound is named
 abbrev pub listMost : ℕ
 listMost = 65536

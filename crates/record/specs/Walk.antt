@@ -1,5 +1,6 @@
 -- What the functions of this crate answer, by the definitions of records. Assumes nothing.
 use Prim.Native.Nat.{ℕ, zero, suc, _+_}
+use mathlib.Core.Option.{Option, none}
 use mathlib.Core.List.{List, [], _∷_}
 use lib.ListN.{length, drop}
 use Rattle.base.specs.Choice.{pick, maybe}
@@ -14,6 +15,10 @@ use Rattle.record.specs.declared.Bounds.the-variants as bounds
 -- the record at a place: its kind and its end
 unfoldable pub frontAt : List ℕ → ℕ → Front
 frontAt s at = pick (whole (drop at s)) (front.Record (recordAt (drop at s) .kind) (at + lengthAt (drop at s))) front.Damaged
+
+-- what the record at a place holds; none: damaged
+unfoldable pub readAt : {A : Type 0} → (Rec → Option A) → List ℕ → ℕ → Option A
+readAt read s at = pick (whole (drop at s)) (read (recordAt (drop at s))) none
 
 -- how many records of a kind fill the bytes, of which there are at most so many
 unfoldable pub countOf : ℕ → ℕ → List ℕ → Filled

@@ -12,17 +12,18 @@ use Rattle.base.specs.Lists.{same, any, all, first}
 use Rattle.fault.specs.declared.Fault.{Fault}
 use Rattle.fault.specs.declared.Fault.the-variants.{TooLong, FirstGroup, RepeatedGroup, RepeatedKey, NoPlainKey}
 use Rattle.fault.specs.Answer.{Answer, given, refused, _>>=_, need, unless, accepted}
+use Rattle.fault.proofs.Answers.{accepted-given}
 use Rattle.line.specs.declared.Line.{Line}
 use Rattle.line.specs.declared.Line.the-variants.{Blank, Comment, Header, Entry, Bad}
 use Rattle.line.specs.Line.{isBad}
 use Rattle.rows.specs.Rows.{Row, lineOf, readRows}
-use Rattle.rows.specs.Title.{Title, Nameless, Group, Key, titleOf, title, sameTitle, seeing, titles}
+use Rattle.rows.specs.Title.{desktopEntry, Title, Nameless, Group, Key, titleOf, title, sameTitle, seeing, titles}
 use Rattle.base.proofs.Search.{there-first}
 use Rattle.rows.proofs.Titles.{sameTitle-sym}
-use Rattle.wellformed.specs.Check.{titleFault, rowFault, earliest, isGroup, noPlain, titledAs, plainAll, checkedRows, checkAs}
+use Rattle.wellformed.specs.Check.{titleFault, rowFault, earliest, isGroup, noPlain, titledAs, plainAll, checkedRows, checkAs, check}
 use Rattle.rows.specs.Find.{noneBad}
 use Rattle.base.proofs.Tests.{no}
-use Rattle.wellformed.specs.WellFormed.{leads, distinct, wellFormedAs, CheckAccepts}
+use Rattle.wellformed.specs.WellFormed.{leads, distinct, wellFormedAs, wellFormed, CheckAccepts}
 
 -- no title of a list was seen
 fresh : List Title → List Title → Bool
@@ -187,3 +188,8 @@ check-good leading file e = by (leb (length file) 32768) (titledAs leading (read
     by true (given tt) l q e = (titled-good leading file (sym q), leb-true (length file) 32768 l)
     by true (refused f) l q e = no (cc)
     by false a l q e = no (cc)
+
+-- a well-formed file passes the check
+pub checks : (file : List ℕ) → wellFormed file ≡ true → check file ≡ given tt
+unfolding CheckAccepts
+checks file w = accepted-given (check file) (check-accepts desktopEntry file ∙ w) .1

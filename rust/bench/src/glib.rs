@@ -39,6 +39,17 @@ extern "C" {
         locale: *const c_char,
         error: RawError,
     ) -> *mut c_char;
+    fn g_key_file_set_string(
+        file: *mut RawKeyFile,
+        group: *const c_char,
+        key: *const c_char,
+        text: *const c_char,
+    );
+    fn g_key_file_to_data(
+        file: *mut RawKeyFile,
+        length: *mut usize,
+        error: RawError,
+    ) -> *mut c_char;
     fn g_free(memory: *mut c_void);
 }
 
@@ -99,6 +110,20 @@ impl KeyFile {
                 ptr::null_mut(),
             )
         })
+    }
+}
+
+impl KeyFile {
+    /// Sets a key of a group to a text, which GLib escapes.
+    pub fn set(&mut self, group: &CStr, key: &CStr, text: &CStr) {
+        // SAFETY: the file is alive and the names end in zero bytes.
+        unsafe { g_key_file_set_string(self.0, group.as_ptr(), key.as_ptr(), text.as_ptr()) }
+    }
+
+    /// The file as it would be written.
+    pub fn data(&self) -> Option<Made> {
+        // SAFETY: the file is alive; neither length nor error is asked for.
+        Made::new(unsafe { g_key_file_to_data(self.0, ptr::null_mut(), ptr::null_mut()) })
     }
 }
 

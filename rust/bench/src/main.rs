@@ -2,6 +2,7 @@
 //! `cargo run --release --offline [FOLDER]`; the folder of .desktop files is /usr/share/applications if none is given.
 
 mod glib;
+mod renames;
 
 use std::ffi::{CStr, CString};
 use std::hint::black_box;
@@ -10,6 +11,7 @@ use std::{env, fs};
 
 use glib::KeyFile;
 use kveldrim::DESKTOP_ENTRY;
+use renames::Renames;
 
 /// Nine keys that a launcher asks for.
 const NINE: [&CStr; 9] = [
@@ -58,6 +60,7 @@ fn main() {
     let short = short_keys();
     let same_ends = same_ends();
     let long = long_value();
+    let renames = Renames::new();
     let refused = real.1;
     println!(
         "{} real files, {refused} more left out (refused by one of both)",
@@ -69,6 +72,7 @@ fn main() {
     );
     agree(&real.0);
     agree(&short.0);
+    renames.agree();
     println!();
     println!("| input | call | Kveldrim, µs a file | GLib, µs a file | GLib / Kveldrim |");
     println!("|---|---|---:|---:|---:|");
@@ -82,6 +86,7 @@ fn main() {
         &same_ends.0,
     );
     read_text("one value of 30 KB", &long);
+    renames.rows();
 }
 
 /// The rows of calls on whole files.

@@ -6,6 +6,8 @@ use std::time::Duration;
 use clap::{ArgGroup, Args, Parser, Subcommand, ValueHint};
 use clap_complete::Shell;
 
+use crate::streams;
+
 /// Checks .desktop files, reads, edits and merges them, and expands their commands
 #[derive(Parser)]
 #[command(name = "kveldrim", version, after_help = AFTER_HELP)]
@@ -43,6 +45,8 @@ pub enum Command {
     Set(Set),
     /// Removes a key with its line
     Remove(Remove),
+    /// Sets and removes many keys at once, as a table says
+    Batch(Batch),
     /// Takes the latest edits back
     Undo(Step),
     /// Makes the edits once more that were taken back last
@@ -150,6 +154,13 @@ pub struct Change {
     /// The key KEY[L]
     #[arg(long, value_name = "L")]
     pub locale: Option<OsString>,
+    #[command(flatten)]
+    pub editing: Editing,
+}
+
+/// How keys are edited, whichever they are.
+#[derive(Args)]
+pub struct Editing {
     /// Puts the journal aside under another name and starts a new one
     #[arg(long)]
     pub discard_journal: bool,
@@ -232,6 +243,35 @@ pub struct Remove {
     pub key: Key,
     #[command(flatten)]
     pub change: Change,
+}
+
+#[derive(Args)]
+#[command(after_help = "\
+TABLE is CSV in UTF-8, as a spreadsheet saves it, with commas, semicolons or tabs. Its first line names the columns, in any \
+order. An empty group is Desktop Entry:
+
+  action,group,key,text
+  set,,Name,Write a letter
+  set,,Name[de],Einen Brief schreiben
+  set,Desktop Action new,Name,New letter
+  remove,,Icon,
+
+The requests are made in turn, as by set and remove, and FILE is written once. The first that is refused is told as \
+TABLE:LINE: what is wrong, and ends it: those before it stand, unless there is --all-or-nothing. `kveldrim undo FILE 4` takes \
+four of them back.")]
+pub struct Batch {
+    /// The file
+    pub file: OsString,
+    /// The table of requests; without it, and as -, standard input
+    #[arg(default_value = streams::STDIN, hide_default_value = true, value_hint = ValueHint::FilePath)]
+    pub table: OsString,
+    /// Changes nothing if one of the requests is refused
+    #[arg(long)]
+    pub all_or_nothing: bool,
+    #[command(flatten)]
+    pub editing: Editing,
+    #[command(flatten)]
+    pub json: Json,
 }
 
 /// What --person is to undo and redo, which record nobody.

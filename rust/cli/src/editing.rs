@@ -1,6 +1,7 @@
 //! `kveldrim set`, `remove`, `undo`, `redo`, `log` and `forget`: edits of a file with its journal.
 
 use std::cell::Cell;
+use std::collections::BTreeSet;
 use std::ffi::OsStr;
 use std::os::unix::ffi::OsStrExt;
 use std::process::ExitCode;
@@ -8,7 +9,7 @@ use std::process::ExitCode;
 use kveldrim::{Document, Edit, Edits, Kind, Person, Refusal};
 use serde_json::json;
 
-use crate::arguments::{Change, Forget, Json, Key, Log, Manner, Remove, Set, Step};
+use crate::arguments::{Change, Editing, Forget, Json, Key, Log, Manner, Remove, Set, Step, Who};
 use crate::log::{edits, Done, Recorded, State, Tense, Told};
 use crate::persons::{given_person, Persons};
 use crate::report::Trouble;
@@ -80,40 +81,69 @@ fn change(
         }
         key = [&key, &b"["[..], locale.as_bytes(), b"]"].concat();
     }
-    named(file)?;
-    let who = given_person(&change.who.person, name)?;
-    let mut persons = Persons::of(&change.who.persons, file, name)?.without_fault()?;
-    let person = persons.find(who, name)?;
+    let Editing {
+        discard_journal,
+        no_warn,
+        who,
+        manner,
+    } = &change.editing;
+    let (person, mut persons) = editor(file, who, name)?;
     let edit = |document: &mut Document| call(document, person, group, &key);
     let made = make(
         file,
-        change.discard_journal,
-        &change.manner,
+        *discard_journal,
+        manner,
         &persons,
         |document| Ok(vec![made(document, "by", edit)?]),
         |document, refusal| match refusal.kind {
-            Kind::JournalFull => Trouble::full(file, to_forget(document, edit)),
+            Kind::JournalFull => full(file, document, edit),
             _ => Trouble::of_change(file, group, &key, document.file(), refusal),
         },
     )?;
-    if !change.no_warn {
-        persons.warn(change.manner.dry_run.then_some(person));
-        persons.warn_of_nameless(person, file);
-        made.warn(file, group, &key);
+    if !no_warn {
+        persons.warn(manner.dry_run.then_some(person));
+        let accepted = Accepted {
+            file,
+            person,
+            before: &made.before,
+            after: &made.after,
+            keys: vec![(group, &key)],
+        };
+        accepted.warn(&persons);
     }
     Ok(())
 }
 
-/// How many of the oldest edits have to be forgotten, so that a full journal has room for an edit. Once all are, it has: old and
-/// new bytes of a record are each a part of a file of at most 32,768 bytes, less its first header, and the record's head is short.
-fn to_forget(document: &Document, edit: impl Fn(&mut Document) -> Result<(), Refusal>) -> usize {
+/// Who edits a file, and the names of persons.
+pub fn editor(file: &OsStr, who: &Who, name: &str) -> Result<(Person, Persons), Trouble> {
+    named(file)?;
+    let word = given_person(&who.person, name)?;
+    let mut persons = Persons::of(&who.persons, file, name)?.without_fault()?;
+    Ok((persons.find(word, name)?, persons))
+}
+
+/// The journal has no room for an edit. Once all edits are forgotten it has: old and new bytes of a record are each a part of a
+/// file of at most 32,768 bytes, less its first header, and the record's head is short.
+pub fn full(
+    file: &OsStr,
+    document: &Document,
+    edit: impl Fn(&mut Document) -> Result<(), Refusal>,
+) -> Trouble {
+    let count = to_forget(document, |copy| edit(copy).is_ok());
+    Trouble::full(file, count.expect("room for one edit"), "room")
+}
+
+/// How many of the oldest edits have to be forgotten, so that the journal has room; none if it has not even without all of them.
+pub fn to_forget(document: &Document, has_room: impl Fn(&mut Document) -> bool) -> Option<usize> {
     let is_full = |count: &u64| {
         let mut copy = document.clone();
-        copy.forget(*count).and_then(|()| edit(&mut copy)).is_err()
+        copy.forget(*count).is_err() || !has_room(&mut copy)
     };
     let edits = Edits::new(standing(document)).count() as u64;
+    let counts: Vec<u64> = (0..=edits).collect();
     // The more are forgotten, the more room there is.
-    (0..edits).collect::<Vec<_>>().partition_point(is_full)
+    let count = counts.partition_point(is_full);
+    (count < counts.len()).then_some(count)
 }
 
 /// So many undos or redos, all or none. Where it is known who edits, it is told which of the edits are another person's; no fault
@@ -231,7 +261,7 @@ fn make(
 }
 
 /// A file for calls; a dry run takes neither lock nor rights.
-fn open(file: &OsStr, discard: bool, manner: &Manner) -> Result<Store, Trouble> {
+pub fn open(file: &OsStr, discard: bool, manner: &Manner) -> Result<Store, Trouble> {
     match manner.dry_run {
         true => Store::look(file, discard),
         false => Store::edit(file, discard, manner.wait.wait),
@@ -239,7 +269,7 @@ fn open(file: &OsStr, discard: bool, manner: &Manner) -> Result<Store, Trouble> 
 }
 
 /// What a refused call means, where it may be about the journal on disk, or else what is said of it.
-fn trouble(store: &Store, refusal: Refusal, said: impl FnOnce() -> Trouble) -> Trouble {
+pub fn trouble(store: &Store, refusal: Refusal, said: impl FnOnce() -> Trouble) -> Trouble {
     match refusal.kind {
         Kind::Damaged => store.damaged(),
         Kind::Nothing => store.left_behind().unwrap_or_else(said),
@@ -257,18 +287,37 @@ fn named(file: &OsStr) -> Result<(), Trouble> {
     }
 }
 
-impl Made {
-    /// Warns of what an accepted edit leaves behind that its user will hardly want.
-    fn warn(&self, file: &OsStr, group: &[u8], key: &[u8]) {
-        warn_of_loss("edit", file, &[&self.before], &self.after);
-        if kveldrim::lookup(&self.after, group, key).is_ok() && is_unread(key) {
-            Trouble::unread(file, key).tell();
+/// Edits of keys that were accepted.
+pub struct Accepted<'a> {
+    pub file: &'a OsStr,
+    pub person: Person,
+    pub before: &'a [u8],
+    pub after: &'a [u8],
+    /// The group and the key of each.
+    pub keys: Vec<(&'a [u8], &'a [u8])>,
+}
+
+impl Accepted<'_> {
+    /// Warns of what their user will hardly want, of each kind once.
+    pub fn warn(&self, persons: &Persons) {
+        persons.warn_of_nameless(self.person, self.file);
+        let edits = match self.keys.len() {
+            1 => "this edit",
+            _ => "these edits",
+        };
+        warn_of_loss(edits, self.file, &[self.before], self.after);
+        let is_set = |group, key| kveldrim::lookup(self.after, group, key).is_ok();
+        let keys = self.keys.iter();
+        let unread = keys.filter(|(group, key)| is_unread(key) && is_set(group, key));
+        let unread: BTreeSet<&[u8]> = unread.map(|(_, key)| *key).collect();
+        if !unread.is_empty() {
+            Trouble::unread(self.file, &Vec::from_iter(unread)).tell();
         }
     }
 }
 
 /// Warns of a file that is not complete, or whose Exec cannot be expanded, where all that it was made of were and could.
-pub fn warn_of_loss(act: &str, file: &OsStr, before: &[&[u8]], after: &[u8]) {
+pub fn warn_of_loss(acts: &str, file: &OsStr, before: &[&[u8]], after: &[u8]) {
     let incomplete = |bytes: &[u8]| {
         let refusal = kveldrim::complete(bytes).err()?;
         Some(Trouble::of_file(file, bytes, refusal))
@@ -277,7 +326,7 @@ pub fn warn_of_loss(act: &str, file: &OsStr, before: &[&[u8]], after: &[u8]) {
     let warn = |ask: &dyn Fn(&[u8]) -> Option<Trouble>, loss: &str| {
         let was_well = before.iter().all(|bytes| ask(bytes).is_none());
         if let Some(trouble) = ask(after).filter(|_| was_well) {
-            trouble.warning(&format!("with this {act} {loss}")).tell();
+            trouble.warning(&format!("with {acts} {loss}")).tell();
         }
     };
     warn(&incomplete, "the file is no longer complete");

@@ -99,7 +99,7 @@ fn bad_line(line: &[u8], number: usize, at: usize, has_lf: bool) -> String {
     words.unwrap_or_else(|| Kind::BadLine.words().into())
 }
 
-const BYTE_ORDER_MARK: &[u8] = b"\xEF\xBB\xBF";
+pub const BYTE_ORDER_MARK: &[u8] = b"\xEF\xBB\xBF";
 
 /// Whether a file of one line holds a CR within it.
 fn is_parted_by_cr(file: &[u8]) -> bool {
@@ -264,7 +264,7 @@ pub fn plain(key: &[u8]) -> Option<&[u8]> {
 }
 
 /// A name, key or value in words; of a long one the start.
-fn named(text: &[u8]) -> String {
+pub fn named(text: &[u8]) -> String {
     const MOST: usize = 60;
     let shown = shown(OsStr::from_bytes(text));
     let shown = String::from_utf8_lossy(&shown);

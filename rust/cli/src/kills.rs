@@ -149,8 +149,8 @@ fn found(file: &Path) -> Pair {
     Pair::of(&store.document())
 }
 
-/// The file `t`, and two changed copies of it.
-fn three_files() -> Folder {
+/// The file `t`, two changed copies of it, and a table of requests.
+fn files() -> Folder {
     let files = [
         ("t", "[Desktop Entry]\nName=Lesen\nName[fr]=Lire\nExec=view"),
         (
@@ -161,15 +161,20 @@ fn three_files() -> Folder {
             "theirs",
             "[Desktop Entry]\nName=Lesen\nName[fr]=Lisez\nExec=view",
         ),
+        (
+            "table",
+            "action,key,text\nset,Name,Lesung\nset,Icon,pen\nremove,Name[fr],\n",
+        ),
     ];
     files
         .map(|(name, bytes)| (name.into(), bytes.into()))
         .into()
 }
 
-/// The command killed at each of so many steps, from the same start: the next run finds the start or the end, whole.
-fn killed_at_each_step(setup: &[&[&str]], words: &[&str], least: u32) {
-    let first = Place::with(&three_files());
+/// The command killed at each of so many steps, from the same start: the next run finds the start or the end, whole. Answers how
+/// many steps there are.
+fn killed_at_each_step(setup: &[&[&str]], words: &[&str], least: u32) -> u32 {
+    let first = Place::with(&files());
     for words in setup {
         assert!(first.run(words, None));
     }
@@ -206,6 +211,7 @@ fn killed_at_each_step(setup: &[&[&str]], words: &[&str], least: u32) {
         assert_eq!(place.content().keys().find(aside), None, "step {steps}");
     }
     assert!(steps >= least, "{steps}");
+    steps
 }
 
 /// A file is written aside in eight steps, and renamed in two.
@@ -261,6 +267,15 @@ fn a_remove() {
     killed_at_each_step(EDITS, &["remove", "Name[fr]"], THREE_FILES);
 }
 
+/// All requests of a table are one edit on disk, with no more steps than a set has.
+#[test]
+fn a_batch() {
+    for setup in [&[][..], EDITS] {
+        let steps = killed_at_each_step(setup, &["batch", "@table"], THREE_FILES);
+        assert_eq!(steps, THREE_FILES);
+    }
+}
+
 #[test]
 fn an_undo() {
     killed_at_each_step(EDITS, &["undo"], THREE_FILES);
@@ -296,7 +311,7 @@ fn a_forget_of_all_edits() {
 fn a_forget_after_a_killed_edit() {
     let mut of_two = 0;
     for step in 1.. {
-        let place = Place::with(&three_files());
+        let place = Place::with(&files());
         for words in &EDITS[..2] {
             assert!(place.run(words, None));
         }
@@ -339,14 +354,14 @@ fn a_merge_that_discards_a_journal() {
 fn a_merge_into_a_new_file() {
     let words = [&MERGE[..4], &["@new"]].concat();
     for step in 1.. {
-        let place = Place::with(&three_files());
+        let place = Place::with(&files());
         let done = place.run(&words, Some(step));
         let new = place.content().remove(OsStr::new("new"));
         assert!(new.is_none_or(|new| new == MERGED), "step {step}");
         assert!(place.run(&words, None));
         let content = place.content();
         let names: Vec<&OsStr> = content.keys().map(OsString::as_os_str).collect();
-        assert_eq!(names, ["mine", "new", "t", "theirs"]);
+        assert_eq!(names, ["mine", "new", "t", "table", "theirs"]);
         assert_eq!(content[OsStr::new("new")], MERGED);
         if done {
             // One file is written aside in five steps and renamed in two.
@@ -359,7 +374,7 @@ fn a_merge_into_a_new_file() {
 /// Another program changes the file while an edit is under way, in one of two ways. Up to the last step before the file is
 /// replaced, its bytes stay and the edit is refused; the journal keeps all that it had.
 fn changed_at_each_step(setup: &[&[&str]], words: &[&str], how: &str, bytes: &[u8], steps: u32) {
-    let first = Place::with(&three_files());
+    let first = Place::with(&files());
     for words in setup {
         assert!(first.run(words, None));
     }
@@ -395,7 +410,7 @@ fn a_change_during_an_edit() {
 #[test]
 fn a_replacement_during_an_edit() {
     let words = ["set", "Name", "Lesung"];
-    let edited = &three_files()[OsStr::new("mine")];
+    let edited = &files()[OsStr::new("mine")];
     changed_at_each_step(&EDITS[..1], &words, REPLACE, edited, BEFORE_AN_EDIT);
 }
 
@@ -403,7 +418,7 @@ fn a_replacement_during_an_edit() {
 #[test]
 fn a_change_during_a_forget() {
     let setup = [&["set", "Name", "Lesung"][..], EDITS[0]];
-    let edited = &three_files()[OsStr::new("mine")];
+    let edited = &files()[OsStr::new("mine")];
     changed_at_each_step(&setup, FORGET, CHANGE, OTHER, 8);
     changed_at_each_step(&setup, FORGET, REPLACE, edited, 8);
 }
@@ -411,7 +426,7 @@ fn a_change_during_a_forget() {
 /// The file that is to be replaced is BASE too: what is merged is what was locked.
 #[test]
 fn a_change_during_a_merge() {
-    let base = &three_files()[OsStr::new("t")];
+    let base = &files()[OsStr::new("t")];
     changed_at_each_step(&[], MERGE, CHANGE, OTHER, 8);
     changed_at_each_step(&[], MERGE, REPLACE, base, 8);
 }

@@ -33,6 +33,7 @@ pub struct Recorded {
 #[derive(Clone, Copy, PartialEq, Eq)]
 pub enum State {
     Stands,
+    WouldStand,
     Waits,
     Forgotten(Tense),
 }
@@ -41,6 +42,7 @@ impl State {
     fn words(self) -> &'static str {
         match self {
             State::Stands => "stands",
+            State::WouldStand => "would stand",
             State::Waits => "waits",
             State::Forgotten(Tense::Past) => "forgotten",
             State::Forgotten(Tense::Conditional) => "would be forgotten",
@@ -55,16 +57,23 @@ pub enum Tense {
     Conditional,
 }
 
-/// Every edit of a journal, from the first on. The file is taken back to its start and forth again, so an edit is told by the
+/// Every edit of a journal.
+pub fn edits(document: Document) -> Result<Vec<Recorded>, Refusal> {
+    edits_from(document, 0)
+}
+
+/// The edits of a journal from this byte of it on. The file is taken back to there and forth again, so an edit is told by the
 /// file that it found.
-pub fn edits(mut document: Document) -> Result<Vec<Recorded>, Refusal> {
+pub fn edits_from(mut document: Document, start: u64) -> Result<Vec<Recorded>, Refusal> {
     let journal = document.journal().to_vec();
+    let (before, rest) = journal.split_at(start as usize);
+    let first = Edits::new(before).count() as u64;
     let standing = document.standing();
-    while document.standing() > 0 {
+    while document.standing() > start {
         document.undo()?;
     }
     let mut recorded = Vec::new();
-    for (number, edit) in (0..).zip(Edits::new(&journal)) {
+    for (number, edit) in (first..).zip(Edits::new(rest)) {
         let state = match document.standing() < standing {
             true => State::Stands,
             false => State::Waits,

@@ -6,6 +6,7 @@
 mod access;
 mod arguments;
 mod attributes;
+mod batch;
 mod check;
 mod disk;
 mod editing;
@@ -24,6 +25,7 @@ mod persons;
 mod report;
 mod store;
 mod streams;
+mod table;
 mod value;
 
 use std::env;
@@ -57,6 +59,7 @@ fn run(words: impl Iterator<Item = OsString>) -> ExitCode {
         Command::List(list) => value::list(list),
         Command::Set(set) => editing::set(set),
         Command::Remove(remove) => editing::remove(remove),
+        Command::Batch(asked) => batch::batch(asked),
         Command::Undo(step) => editing::undo(step),
         Command::Redo(step) => editing::redo(step),
         Command::Log(log) => editing::log(log),

@@ -65,7 +65,7 @@ fn answer(asked: &Merge) -> Result<(), Vec<Trouble>> {
     let written = output.write(&merged);
     written.map_err(|trouble| vec![trouble.unusable()])?;
     if !asked.no_warn {
-        warn_of_loss("merge", name, &files[1..], &merged);
+        warn_of_loss("this merge", name, &files[1..], &merged);
     }
     Ok(())
 }

@@ -12,6 +12,7 @@ use kveldrim::Person;
 
 use crate::arguments::{PersonsFile, PERSON, PERSONS};
 use crate::disk;
+use crate::faults::BYTE_ORDER_MARK;
 use crate::log::in_quotes;
 use crate::names::Names;
 use crate::report::{shown, Trouble};
@@ -21,8 +22,6 @@ const BESIDE: &str = "kveldrim-persons.txt";
 
 /// The most bytes that a file of persons has.
 const MOST: usize = 65_536;
-
-const BYTE_ORDER_MARK: &[u8] = b"\xEF\xBB\xBF";
 
 type Named = BTreeMap<Person, String>;
 
@@ -55,7 +54,7 @@ impl Persons {
             }
         };
         let is_asked_for = asked.is_some();
-        let of_line = |(line, words): (usize, String)| Trouble::of_persons(&file, line, &words);
+        let of_line = |(line, words): (usize, String)| Trouble::of_line(&file, line, words);
         let named = match found {
             Ok(Some(bytes)) => read(&bytes).map(Some).map_err(of_line),
             Ok(None) => Ok(None),

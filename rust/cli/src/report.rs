@@ -100,9 +100,26 @@ impl Trouble {
     }
 
     /// The same, with what was done all the same.
-    pub fn although(self, done: &str) -> Trouble {
-        let words = [&self.words[..], b"; ", done.as_bytes()].concat();
+    pub fn although(self, done: impl AsRef<[u8]>) -> Trouble {
+        let words = [&self.words[..], b"; ", done.as_ref()].concat();
         Trouble { words, ..self }
+    }
+
+    /// The same, told of a line of this file.
+    pub fn at_line(self, file: &OsStr, line: usize) -> Trouble {
+        Trouble {
+            about: file.into(),
+            line: Some(line),
+            ..self
+        }
+    }
+
+    /// The same, with which refusal it is.
+    pub fn of_kind(self, kind: Kind) -> Trouble {
+        Trouble {
+            kind: Some(kind),
+            ..self
+        }
     }
 
     /// A warning about a file, or about the command itself.
@@ -209,19 +226,22 @@ impl Trouble {
         Trouble::new(file, words, UNUSABLE)
     }
 
-    /// A file of persons cannot be used because of one of its lines.
-    pub fn of_persons(file: &OsStr, line: usize, words: &str) -> Trouble {
-        Trouble {
-            line: Some(line),
-            ..Trouble::new(file, words, UNUSABLE)
-        }
+    /// A file of persons or a table cannot be used because of one of its lines.
+    pub fn of_line(file: &OsStr, line: usize, words: impl Into<Vec<u8>>) -> Trouble {
+        Trouble::new(file, words, UNUSABLE).at_line(file, line)
     }
 
-    /// A key was set that the choice by a locale never takes.
-    pub fn unread(file: &OsStr, key: &[u8]) -> Trouble {
-        let words =
-            b"`get --locale` will not read this key: its locale has an encoding, or is C or POSIX";
-        Trouble::warning_of(file, [&escaped(key), &b": "[..], words].concat())
+    /// Keys were set that the choice by a locale never takes.
+    pub fn unread(file: &OsStr, keys: &[&[u8]]) -> Trouble {
+        let (which, whose) = match keys.len() {
+            1 => ("this key", "its locale"),
+            _ => ("these keys", "each locale"),
+        };
+        let words = format!(
+            ": `get --locale` will not read {which}: {whose} has an encoding, or is C or POSIX"
+        );
+        let keys: Vec<Vec<u8>> = keys.iter().map(|key| escaped(key)).collect();
+        Trouble::warning_of(file, [keys.join(&b", "[..]), words.into_bytes()].concat())
     }
 
     pub fn refused(file: &OsStr, words: &str) -> Trouble {
@@ -347,23 +367,16 @@ impl Trouble {
         Trouble::new(file, words, REFUSED)
     }
 
-    /// The journal has no room for an edit until so many of the oldest are forgotten.
-    pub fn full(file: &OsStr, count: usize) -> Trouble {
-        let name = file.as_bytes();
-        let end: &[u8] = match name.starts_with(b"-") {
-            true => b"-- ",
-            false => b"",
-        };
-        let name = word(name).unwrap_or(b"FILE".to_vec());
+    /// The journal has no room for an edit. Once so many of the oldest are forgotten, it has the room that is named.
+    pub fn full(file: &OsStr, count: usize, room: &str) -> Trouble {
         let oldest = match count {
             1 => "the oldest edit".into(),
             _ => format!("the {count} oldest edits"),
         };
-        let way_out = format!(" {count} makes room: {oldest} can then no longer be undone)");
+        let way_out = format!(" makes {room}: {oldest} can then no longer be undone)");
         let words = [
-            b"its journal has no room for this edit (kveldrim forget ",
-            end,
-            &name,
+            b"the journal has no room for this edit (",
+            &command("forget", file, count)[..],
             way_out.as_bytes(),
         ];
         Trouble::new(file, words.concat(), REFUSED)
@@ -441,7 +454,8 @@ const UNFIT: &str =
     "this text cannot be set: it must be UTF-8, without control bytes other than tab, LF and CR";
 
 /// What can be done about a journal.
-const DISCARD: &str = " (set, remove and merge put the journal aside with --discard-journal)";
+const DISCARD: &str =
+    " (set, remove, batch and merge put the journal aside with --discard-journal)";
 
 fn no_key(group: &[u8], key: &[u8]) -> Vec<u8> {
     [
@@ -466,6 +480,18 @@ pub fn shown(name: &OsStr) -> Vec<u8> {
         true => b"''".to_vec(),
         false => escaped(name.as_bytes()),
     }
+}
+
+/// A command on so many edits of a file, as it can be pasted into a shell.
+pub fn command(name: &str, file: &OsStr, count: usize) -> Vec<u8> {
+    let file = file.as_bytes();
+    let end = match file.starts_with(b"-") {
+        true => "-- ",
+        false => "",
+    };
+    let start = format!("kveldrim {name} {end}");
+    let file = word(file).unwrap_or(b"FILE".to_vec());
+    [start.as_bytes(), &file, format!(" {count}").as_bytes()].concat()
 }
 
 /// A name as a word of a shell, if a message shows it as it is.

@@ -15,14 +15,19 @@ pub const STDIN: &str = "-";
 
 /// The bytes of a file or of standard input, or so many of them that the core refuses it as too long.
 pub fn read(file: &OsStr) -> Result<Vec<u8>, Trouble> {
+    read_most(file, FILE_BOUND)
+}
+
+/// The bytes of a file or of standard input, at most one more than `most`.
+pub fn read_most(file: &OsStr, most: usize) -> Result<Vec<u8>, Trouble> {
     let bytes = match file == STDIN {
         true => {
             let mut bytes = Vec::new();
-            let most = FILE_BOUND as u64 + 1;
+            let most = most as u64 + 1;
             let stdin = io::stdin().lock().take(most).read_to_end(&mut bytes);
             stdin.map(|_| bytes)
         }
-        false => disk::read(Path::new(file), FILE_BOUND),
+        false => disk::read(Path::new(file), most),
     };
     bytes.map_err(|error| Trouble::unreadable(file, &error))
 }

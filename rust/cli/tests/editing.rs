@@ -11,13 +11,14 @@ use std::process::Command;
 use std::thread;
 use std::time::Duration;
 
-use common::{earlier_journals, tool, with_digest, Folder, Shared, JOURNAL, T};
+use common::{earlier_journals, tool, with_digest, Folder, Shared, JOURNAL, T, TABLE};
 use rustix::fs::{flock, FlockOperation};
 
 /// Each command that needs the journal.
-const COMMANDS: [&[&str]; 6] = [
+const COMMANDS: [&[&str]; 7] = [
     &["set", "t", "Name", "x"],
     &["remove", "t", "Exec"],
+    &["batch", "t", TABLE],
     &["undo", "t"],
     &["redo", "t"],
     &["forget", "t", "1"],
@@ -165,7 +166,7 @@ fn a_full_journal() {
         folder.does(&["set", "t", "Name", text]);
     }
     let words = ["set", "t", "Name", &a];
-    folder.refuses(1, &words, "t: its journal has no room for this edit (");
+    folder.refuses(1, &words, "t: the journal has no room for this edit (");
     let full = folder.read(JOURNAL);
     folder.does(&["set", "t", "Name", &a, "--discard-journal"]);
     assert_eq!(folder.read(".t.kveldrim-journal-1"), full);
@@ -181,7 +182,7 @@ fn a_change_by_another_program() {
     let other = [&folder.read("t")[..], b"# a note\n"].concat();
     let folder = folder.with(b"t", &other);
     let told = "t: another program has changed this file since its last edit, so its journal \
-        .t.kveldrim-journal no longer belongs to it (set, remove and merge put the journal aside";
+        .t.kveldrim-journal no longer belongs to it (set, remove, batch and merge put the journal aside";
     for words in COMMANDS {
         folder.refuses(1, words, told);
     }
@@ -208,7 +209,7 @@ fn a_change_by_another_program() {
     assert_eq!(folder.names(), aside);
 }
 
-const DAMAGED: &str = "t: its journal .t.kveldrim-journal is damaged (set, remove and merge";
+const DAMAGED: &str = "t: its journal .t.kveldrim-journal is damaged (set, remove, batch and merge";
 
 #[test]
 fn a_damaged_journal() {
@@ -231,6 +232,7 @@ fn a_damaged_journal() {
         folder = folder.with(JOURNAL.as_bytes(), &journal);
         for words in [
             &["set", "t", "Name", "x"][..],
+            &["batch", "t", TABLE],
             &["undo", "t"],
             &["forget", "t", "0"],
             &["log", "t"],

@@ -451,6 +451,10 @@ fn the_examples_of_the_document() {
     }
     write(folder.run(&[b"log", b"--json", b"edited.desktop"]));
     write(folder.run(&[b"forget", b"--json", b"edited.desktop", b"1"]));
+    let table = b"action,key,text\nset,Icon,pen\nremove,Icon\nremove,Icon\n";
+    fs::write(folder.0.join("terms.csv"), table).unwrap();
+    let batch = ["batch", "--json", "edited.desktop", "terms.csv"];
+    write(folder.words(&[&batch[..], &["--person=Anna"]].concat()));
     write(folder.run(&[b"expand", b"--json", b"good.desktop", b"a b.txt"]));
     write(folder.run(&[b"expand", b"--json", b"--runs", b"each.desktop", b"a", b"b"]));
     let latin = objects(&latin.run(&[b"check", b"--json", b"M\xFCller"]));
@@ -464,10 +468,10 @@ fn the_examples_of_the_document() {
     let example = |line: &str| serde_json::from_str(line).map(|object: Value| object.to_string());
     let examples: BTreeSet<String> = examples.map(|line| example(line).expect(line)).collect();
     assert_eq!(written, examples);
-    // Every kind of the table is one, with its number.
+    // Every kind of the tables is one, with its number.
     for kind in kveldrim::Kind::ALL
         .iter()
-        .filter(|kind| matches!(kind.number(), 1..=6 | 18))
+        .filter(|kind| matches!(kind.number(), 1..=8 | 10 | 11 | 13 | 17 | 18))
     {
         let name = format!("`{}`", kind.name());
         let row = document

@@ -290,7 +290,7 @@ fn filled(name: &[u8]) -> (Folder, Vec<u8>) {
 fn a_full_journal() {
     let (folder, text) = filled(b"t");
     let text = String::from_utf8(text).unwrap();
-    let full = "t: its journal has no room for this edit (kveldrim forget t";
+    let full = "t: the journal has no room for this edit (kveldrim forget t";
     let set = ["set", "t", "Name", &text];
     let told = format!("{full} 2 makes room: the 2 oldest edits can then no longer be undone)");
     folder.refuses(1, &set, &told);
@@ -312,7 +312,7 @@ fn a_journal_without_room_for_a_remove() {
     for (letter, length) in [("a", 14_000), ("b", 14_000), ("c", 6_000)] {
         folder.does(&["set", "t", "Icon", &letter.repeat(length)]);
     }
-    let told = "t: its journal has no room for this edit (kveldrim forget t 1 makes room: ";
+    let told = "t: the journal has no room for this edit (kveldrim forget t 1 makes room: ";
     folder.refuses(1, &["remove", "t", "Icon"], told);
     assert_eq!(folder.words(&["forget", "t", "1"]).status, 0);
     folder.does(&["remove", "t", "Icon"]);
@@ -328,7 +328,7 @@ fn the_longest_edit() {
     assert_eq!(folder.read("t").len(), 32_768);
     for text in [&b, &a] {
         let set = ["set", "t", "A", text];
-        let told = "t: its journal has no room for this edit (kveldrim forget t 1 makes room: ";
+        let told = "t: the journal has no room for this edit (kveldrim forget t 1 makes room: ";
         folder.refuses(1, &set, told);
         assert_eq!(folder.words(&["forget", "t", "1"]).status, 0);
         folder.does(&set);

@@ -6,16 +6,17 @@ use std::fs;
 use std::os::unix::fs::symlink;
 use std::process::{Command, Stdio};
 
-use common::{tool, Folder, Outcome, JOURNAL, T};
+use common::{tool, Folder, Outcome, JOURNAL, T, TABLE};
 
 /// The file of persons that is looked for, and one.
 const BESIDE: &str = "kveldrim-persons.txt";
 const PERSONS: &[u8] = b"# Evening courses\n\n1 Anna Berg\n 2\t Ben \r\n";
 
-/// Each command that takes a person.
-const EDITS: [&[&str]; 4] = [
+/// Each command that takes a person; the first three record it.
+const EDITS: [&[&str]; 5] = [
     &["set", "t", "Name", "x"],
     &["remove", "t", "Exec", "--no-warn"],
+    &["batch", "t", TABLE],
     &["undo", "t"],
     &["redo", "t"],
 ];
@@ -250,7 +251,7 @@ fn where_the_file_of_persons_is() {
     tells(log("link", &[]), "\"A\" (person 1)");
 }
 
-/// A file of persons that is named must be there for a set, a remove, a log and a forget; nothing is waited for.
+/// A file of persons that is named must be there for a set, a remove, a batch, a log and a forget; nothing is waited for.
 #[test]
 fn a_named_file_of_persons_that_cannot_be_read() {
     let folder = folder();
@@ -266,7 +267,7 @@ fn a_named_file_of_persons_that_cannot_be_read() {
         let run = |words: &[&str], more: &[&str]| {
             folder.run_in_time(&[words, &["--persons", name], more].concat())
         };
-        for words in [EDITS[0], EDITS[1]].into_iter().chain(TELLERS) {
+        for words in EDITS[..3].iter().copied().chain(TELLERS) {
             run(words, &[]).tells(2, &[&told]);
         }
         let without_names = format!("{name}: warning: persons are told without names: {why}");
@@ -306,8 +307,8 @@ fn persons_beside_the_file_that_a_link_leads_to() {
     folder.words(&["log", "t"]).writes(log.as_bytes());
 }
 
-/// A file of persons beside the edited one that has a fault is an error where a set or a remove needs a name of it. Else it is a
-/// warning where persons are told.
+/// A file of persons beside the edited one that has a fault is an error where a set, a remove or a batch needs a name of it. Else
+/// it is a warning where persons are told.
 fn is_faulty(folder: &Folder, fault: &str) {
     let beside = folder.beside();
     let (place, why) = fault.split_once(": ").unwrap();
@@ -315,8 +316,8 @@ fn is_faulty(folder: &Folder, fault: &str) {
     let not_told = format!("{beside}{place}: {NOT_TOLD}: {why}");
     let warning = format!("{beside}{place}: warning: persons are told without names: {why}");
     let before = folder.both();
-    for edit in [EDITS[0], EDITS[1]] {
-        let words = [edit, &["--person", "Ben"]].concat();
+    for edit in &EDITS[..3] {
+        let words = [edit, &["--person", "Ben"][..]].concat();
         folder.run_in_time(&words).tells(2, &[&told]);
     }
     assert_eq!(folder.both(), before);
@@ -334,6 +335,11 @@ fn is_faulty(folder: &Folder, fault: &str) {
     };
     dry(&[], &[&warning]);
     dry(&["--no-warn"], &[]);
+    let batch = ["batch", "t", TABLE, "--person", "1", "--dry-run"];
+    let lines =
+        "Name in Desktop Entry: \"a\" would become \"x\", by person 1\n1 request would be done\n";
+    let outcome = folder.run_in_time(&batch);
+    outcome.tells_and_writes(0, &[&warning], lines.as_bytes());
     folder.run_in_time(&set).writes(b"");
     let back = "Name in Desktop Entry: \"b\" would become \"a\", taking back an edit by person 1\n";
     for (person, told) in [("1", &warning), ("Ben", &not_told)] {

@@ -7,9 +7,9 @@ use std::process::{Command, Stdio};
 
 use common::{Folder, T};
 
-const COMMANDS: [&str; 12] = [
-    "check", "complete", "get", "list", "set", "remove", "undo", "redo", "log", "forget", "merge",
-    "expand",
+const COMMANDS: [&str; 13] = [
+    "check", "complete", "get", "list", "set", "remove", "batch", "undo", "redo", "log", "forget",
+    "merge", "expand",
 ];
 
 fn run(words: &[&str]) -> (i32, String, String) {
@@ -52,6 +52,8 @@ fn each_command_has_help() {
         (&["undo", "--help"], "Who you are: a number"),
         (&["redo", "--help"], "Who you are: a number"),
         (&["forget", "--help"], "<FILE> <N|--keep <N>>"),
+        (&["batch", "--help"], "[OPTIONS] <FILE> [TABLE]"),
+        (&["batch", "--help"], " action,group,key,text set,,Name,"),
     ] {
         assert!(help(words).contains(part), "{}", help(words));
     }
@@ -75,6 +77,8 @@ fn near_misses_are_named() {
         (&["expnd", "t"], "expand"),
         (&["get", "t", "Name", "--locael=de"], "--locale"),
         (&["set", "t", "Name", "x", "--dryrun"], "--dry-run"),
+        (&["bacth", "t"], "batch"),
+        (&["batch", "t", "--all-or-none"], "--all-or-nothing"),
     ] {
         let (status, out, told) = run(words);
         assert_eq!((status, &out[..]), (2, ""));
@@ -92,7 +96,8 @@ fn completions() {
         let (status, script, _) = run(&["completions", shell]);
         assert_eq!(status, 0);
         assert!(script.contains(part), "{shell}");
-        for word in COMMANDS.into_iter().chain(["dry-run", "persons", "keep"]) {
+        let options = ["dry-run", "persons", "keep", "all-or-nothing"];
+        for word in COMMANDS.into_iter().chain(options) {
             assert!(script.contains(word), "{shell} {word}");
         }
     }
@@ -131,6 +136,14 @@ fn bad_usage_is_2() {
         &[b"remove", b"t"],
         &[b"remove", b"t", b"Name", b"a"],
         &[b"get", b"t", b"Name", b"--discard-journal"],
+        &[b"batch"],
+        &[b"batch", b"t", b"t", b"t"],
+        &[b"batch", b"t", b"t"],
+        &[b"batch", b"t", b"none"],
+        &[b"batch", b"-", b"t"],
+        &[b"batch", b"t", b"t", b"--group", b"x"],
+        &[b"batch", b"t", b"t", b"--locale", b"de"],
+        &[b"batch", b"t", b"t", b"--all-or-nothing=1"],
         &[b"undo"],
         &[b"undo", b"t", b"t"],
         &[b"redo", b"t", b"--group", b"x"],

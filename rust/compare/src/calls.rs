@@ -246,7 +246,7 @@ impl Asker {
         self.value_call(
             "lookup",
             [file, group, key],
-            |[(file, f), (group, g), (key, k)], [place, byte, from, to, _]| unsafe {
+            |[(file, f), (group, g), (key, k)], [place, byte, from, to, ..]| unsafe {
                 ffi::kveldrim_lookup(file, f, group, g, key, k, place, byte, from, to)
             },
             reference::lookup(file, group, key),
@@ -260,7 +260,7 @@ impl Asker {
         self.value_call(
             "choose",
             [file, group, key, locale],
-            |[(file, f), (group, g), (key, k), (locale, l)], [place, byte, from, to, _]| unsafe {
+            |[(file, f), (group, g), (key, k), (locale, l)], [place, byte, from, to, ..]| unsafe {
                 ffi::kveldrim_choose(file, f, group, g, key, k, locale, l, place, byte, from, to)
             },
             reference::choose(file, group, key, locale),
@@ -274,7 +274,7 @@ impl Asker {
         &mut self,
         name: &'static str,
         arguments: [&[u8]; N],
-        call: impl Fn([(*const u8, usize); N], [*mut u64; 5]) -> u32,
+        call: impl Fn([(*const u8, usize); N], [*mut u64; 6]) -> u32,
         expected: Result<(usize, usize), Refusal>,
         answer: Result<&[u8], kveldrim::Refusal>,
     ) -> Result<(), String> {

@@ -4,6 +4,7 @@
 use kveldrim::{ffi, Buffers, Person};
 use reference::{Book, RecordKind, Refusal, State};
 
+use crate::batches;
 use crate::calls::{bound, named, Asker};
 use crate::lent::{Lent, Numbers};
 use crate::lists;
@@ -17,18 +18,25 @@ pub enum Kind {
     Redo,
     /// So many edits are to be forgotten.
     Forget(u64),
+    /// Many sets and removes.
+    Batch,
 }
 
 /// A call with its arguments; those that it does not take are empty.
 #[derive(Clone)]
 pub struct Call {
     pub kind: Kind,
-    /// What a set or remove records: the kind 1 for 01's calls, else the kind 4 with the person.
+    /// What a set, remove or batch records: the kind 1 for 01's calls, else the kind 4 with the person.
     pub record: RecordKind,
     pub group: Vec<u8>,
     pub key: Vec<u8>,
     pub text: Vec<u8>,
+    /// The list of a batch.
+    pub requests: Vec<u8>,
 }
+
+/// What a call tells, and of a batch how many edits were made.
+pub type Counted<R> = (Result<(), R>, Option<u64>);
 
 /// Two buffers with their numbers, 01's calls that were made on them, and calls to make on what these left.
 #[derive(Clone)]
@@ -42,17 +50,18 @@ pub struct List {
 pub struct Given {
     pub file: (*mut u8, usize),
     pub journal: (*mut u8, usize),
-    pub arguments: [(*const u8, usize); 3],
+    pub arguments: [(*const u8, usize); 4],
     pub file_len: *mut u64,
     pub used: *mut u64,
     pub standing: *mut u64,
     pub place: *mut u64,
     pub byte: *mut u64,
+    pub done: *mut u64,
 }
 
-/// Makes a call of the C interface with what is given, the person and these of the arguments.
+/// Makes a call of the C interface with what is given, the person, these of the arguments and perhaps one more number.
 macro_rules! made {
-    ($call:path, $given:expr $(; $person:expr $(, $argument:expr)*)?) => {
+    ($call:path, $given:expr $(; $person:expr $(, $argument:expr)* $(; $number:expr)?)?) => {
         // SAFETY: the bytes and the numbers outlive the call.
         unsafe {
             $call(
@@ -66,6 +75,7 @@ macro_rules! made {
                 $($person, $($argument.0, $argument.1,)*)?
                 $given.place,
                 $given.byte,
+                $($($number,)?)?
             )
         }
     };
@@ -73,13 +83,14 @@ macro_rules! made {
 
 /// The calls of the proved library.
 pub fn proved(call: &Call, given: &Given) -> u32 {
-    let [group, key, text] = given.arguments;
+    let [group, key, text, requests] = given.arguments;
     let person = call.record.person();
     match call.kind {
         Kind::Set => made!(ffi::kveldrim_set, given; person, group, key, text),
         Kind::Remove => made!(ffi::kveldrim_remove, given; person, group, key),
         Kind::Undo => made!(ffi::kveldrim_undo, given),
         Kind::Redo => made!(ffi::kveldrim_redo, given),
+        Kind::Batch => made!(ffi::kveldrim_batch, given; person, requests; given.done),
         // SAFETY: the bytes and the numbers outlive the call.
         Kind::Forget(k) => unsafe {
             ffi::kveldrim_forget(
@@ -103,17 +114,18 @@ impl Call {
             group: Vec::new(),
             key: Vec::new(),
             text: Vec::new(),
+            requests: Vec::new(),
         }
     }
 
     /// A set in the group Desktop Entry by person 7.
     pub fn set(key: &str, text: &[u8]) -> Call {
         Call {
-            kind: Kind::Set,
             record: RecordKind::Four(7),
             group: b"Desktop Entry".to_vec(),
             key: key.into(),
             text: text.to_vec(),
+            ..Call::step(Kind::Set)
         }
     }
 
@@ -130,10 +142,11 @@ impl Call {
             Kind::Undo => "undo",
             Kind::Redo => "redo",
             Kind::Forget(_) => "forget",
+            Kind::Batch => "batch",
         }
     }
 
-    /// The name, and for a set or remove what it records, for a forget how many.
+    /// The name, and for a set, remove or batch what it records, for a forget how many.
     fn words(&self) -> String {
         let name = self.name();
         match (self.kind, self.record) {
@@ -144,13 +157,18 @@ impl Call {
         }
     }
 
-    fn arguments(&self) -> [&[u8]; 3] {
-        [&self.group, &self.key, &self.text]
+    fn arguments(&self) -> [&[u8]; 4] {
+        [&self.group, &self.key, &self.text, &self.requests]
     }
 
     /// The call on the reference's journal.
     pub fn on_state(&self, state: &mut State) -> Result<(), Refusal> {
-        match self.kind {
+        self.counted_on_state(state).0
+    }
+
+    /// The same, with how many edits a batch made.
+    pub fn counted_on_state(&self, state: &mut State) -> Counted<Refusal> {
+        let told = match self.kind {
             Kind::Set => reference::set(state, self.record, &self.group, &self.key, &self.text),
             Kind::Remove => reference::remove(state, self.record, &self.group, &self.key),
             Kind::Undo => reference::undo(state),
@@ -159,7 +177,12 @@ impl Call {
                 let (used, standing) = (&mut state.used, &mut state.standing);
                 reference::forget(&mut state.journal, used, standing, k)
             }
-        }
+            Kind::Batch => {
+                let batch = reference::batch(state, self.record.person(), &self.requests);
+                return (batch.stopped.map_or(Ok(()), Err), Some(batch.done));
+            }
+        };
+        (told, None)
     }
 
     /// The call in a book of the reference.
@@ -170,19 +193,34 @@ impl Call {
             Kind::Undo => book.undo(),
             Kind::Redo => book.redo(),
             Kind::Forget(k) => book.forget(k),
+            // "The single calls tried, the refused one too, take the place of this one": of a damaged list none.
+            Kind::Batch => {
+                let singles = self.singles().ok_or(Refusal::new(14))?;
+                singles.iter().try_for_each(|single| single.on_book(book))
+            }
         }
     }
 
     /// The call over the bindings.
     pub fn on_buffers(&self, buffers: &mut Buffers) -> Result<(), kveldrim::Refusal> {
+        self.counted_on_buffers(buffers).0
+    }
+
+    /// The same, with how many edits a batch made.
+    pub fn counted_on_buffers(&self, buffers: &mut Buffers) -> Counted<kveldrim::Refusal> {
         let person = Person(self.record.person());
-        match self.kind {
+        let told = match self.kind {
             Kind::Set => buffers.set(person, &self.group, &self.key, &self.text),
             Kind::Remove => buffers.remove(person, &self.group, &self.key),
             Kind::Undo => buffers.undo(),
             Kind::Redo => buffers.redo(),
             Kind::Forget(k) => buffers.forget(k),
-        }
+            Kind::Batch => {
+                let batch = buffers.batch(person, &self.requests);
+                return (batch.stopped.map_or(Ok(()), Err), Some(batch.done));
+            }
+        };
+        (told, None)
     }
 }
 
@@ -202,33 +240,43 @@ impl List {
         list
     }
 
-    /// The same without one of the calls, 01's first, or behind these without one of the records that the journal starts with; none
-    /// if there is no such one.
+    /// The same without one of the calls, 01's first, or behind these without one of the requests of its batches, or behind these
+    /// without one of the records that the journal starts with; none if there is no such one.
     pub fn without(&self, number: usize) -> Option<List> {
         let mut list = self.clone();
-        let calls = list.old_calls.len() + list.calls.len();
-        if let Some(record) = number.checked_sub(calls) {
-            let State {
-                journal,
-                used,
-                standing,
-                ..
-            } = &self.start;
-            let fewer = Question {
-                journal: journal.clone(),
-                used: *used,
-                standing: *standing,
-                n: 0,
-            };
-            let fewer = fewer.without(record)?;
-            (list.start.used, list.start.standing) = (fewer.used, fewer.standing);
-            list.start.journal = fewer.journal;
+        let Some(call) = number.checked_sub(list.old_calls.len()) else {
+            list.old_calls.remove(number);
             return Some(list);
-        }
-        match number.checked_sub(list.old_calls.len()) {
-            Some(call) => list.calls.remove(call),
-            None => list.old_calls.remove(number),
         };
+        let Some(mut request) = call.checked_sub(list.calls.len()) else {
+            list.calls.remove(call);
+            return Some(list);
+        };
+        for batch in &mut list.calls {
+            let mut singles = batch.singles().unwrap_or_default();
+            if request < singles.len() {
+                singles.remove(request);
+                batch.requests = batches::list_of(&singles);
+                return Some(list);
+            }
+            request -= singles.len();
+        }
+        self.without_record(request)
+    }
+
+    /// The same without one of the records that the journal starts with.
+    fn without_record(&self, record: usize) -> Option<List> {
+        let mut list = self.clone();
+        let start = &mut list.start;
+        let question = Question {
+            journal: start.journal.clone(),
+            used: start.used,
+            standing: start.standing,
+            n: 0,
+        };
+        let fewer = question.without(record)?;
+        (start.used, start.standing) = (fewer.used, fewer.standing);
+        start.journal = fewer.journal;
         Some(list)
     }
 
@@ -293,6 +341,22 @@ fn numbers(state: &State) -> [u64; 3] {
     [state.file_len, state.used, state.standing]
 }
 
+/// Makes a call on the reference's journal; what it tells, and the name under which it is counted.
+fn counted(call: &Call, state: &mut State) -> (Counted<Refusal>, &'static str) {
+    let before = state.standing;
+    let name = match call.kind {
+        Kind::Forget(k) => Some(forget_of(k, state)),
+        Kind::Batch => batches::fault_of(state, &call.requests),
+        _ => None,
+    };
+    let told = call.counted_on_state(state);
+    let name = name
+        .or_else(|| step_of_kind_1(call, before, state))
+        .or_else(|| batches::end_of(told))
+        .unwrap_or(call.name());
+    (told, name)
+}
+
 /// The name of an undo or redo that went over a record of the kind 1, from this standing number to that of `state`.
 fn step_of_kind_1(call: &Call, before: u64, state: &State) -> Option<&'static str> {
     let name = match call.kind {
@@ -304,28 +368,51 @@ fn step_of_kind_1(call: &Call, before: u64, state: &State) -> Option<&'static st
     (before != state.standing && state.journal[start + 4] == 1).then_some(name)
 }
 
+/// What is wrong with the numbers of a journal, or with its records.
+pub enum Wrong {
+    UsedOverRoom,
+    UsedOverBound,
+    StandingOverUsed,
+    Records,
+    StandingInside,
+}
+
+impl Wrong {
+    /// What is wrong with the journal of a state.
+    pub fn of(state: &State) -> Option<Wrong> {
+        let (used, standing) = (state.used, state.standing);
+        let is_14 = |standing| {
+            let told = reference::person(&state.journal, used, standing, 0);
+            told.is_err_and(|refusal| refusal.number == 14)
+        };
+        if used > state.journal.len() as u64 {
+            return Some(Wrong::UsedOverRoom);
+        }
+        if used > kveldrim::JOURNAL_BOUND as u64 {
+            return Some(Wrong::UsedOverBound);
+        }
+        if standing > used {
+            return Some(Wrong::StandingOverUsed);
+        }
+        if is_14(0) {
+            return Some(Wrong::Records);
+        }
+        is_14(standing).then_some(Wrong::StandingInside)
+    }
+}
+
 /// The name under which a forget on such a state is counted: what is wrong with the state, or how many are to go.
 fn forget_of(k: u64, state: &State) -> &'static str {
+    if let Some(wrong) = Wrong::of(state) {
+        return match wrong {
+            Wrong::UsedOverRoom => "forget, used over the room",
+            Wrong::UsedOverBound => "forget, used over the bound",
+            Wrong::StandingOverUsed => "forget, standing over used",
+            Wrong::Records => "forget, damaged records",
+            Wrong::StandingInside => "forget, standing inside a record",
+        };
+    }
     let (used, standing) = (state.used, state.standing);
-    let is_14 = |standing| {
-        let told = reference::person(&state.journal, used, standing, 0);
-        told.is_err_and(|refusal| refusal.number == 14)
-    };
-    if used > state.journal.len() as u64 {
-        return "forget, used over the room";
-    }
-    if used > kveldrim::JOURNAL_BOUND as u64 {
-        return "forget, used over the bound";
-    }
-    if standing > used {
-        return "forget, standing over used";
-    }
-    if is_14(0) {
-        return "forget, damaged records";
-    }
-    if is_14(standing) {
-        return "forget, standing inside a record";
-    }
     let count = |bytes| lists::count(&state.journal, bytes);
     match (k, count(standing)) {
         (0, _) => "forget none",
@@ -364,15 +451,11 @@ impl Asker {
         let mut journal = self.lend(&state.journal);
         for (at, call) in list.calls.iter().enumerate() {
             let mut given = Numbers::given(numbers(&state));
-            let before = state.standing;
-            let mut name = call.name();
-            if let Kind::Forget(k) = call.kind {
+            if let Kind::Forget(_) = call.kind {
                 given = given.without_byte();
-                name = forget_of(k, &state);
             }
-            let expected = call.on_state(&mut state);
-            let of_kind_1 = step_of_kind_1(call, before, &state);
-            self.count(of_kind_1.unwrap_or(name), &expected);
+            let (expected, name) = counted(call, &mut state);
+            self.count(name, &expected.0);
             let outcome = self
                 .edit(
                     call,
@@ -384,7 +467,7 @@ impl Asker {
                 )
                 .and_then(|()| on_bindings(call, &mut bound, &state, expected))
                 .and_then(|()| match book(call) {
-                    Some(page) => in_book(page, &state, expected),
+                    Some(page) => in_book(page, &state, expected.0),
                     None => Ok(()),
                 });
             named(
@@ -403,11 +486,11 @@ impl Asker {
         mut given: Numbers,
         [file, journal]: [&mut Lent; 2],
         state: &State,
-        expected: Result<(), Refusal>,
+        (told, done): Counted<Refusal>,
         editor: &dyn Fn(&Call, &Given) -> u32,
     ) -> Result<(), String> {
         let arguments = call.arguments().map(|argument| self.lend(argument));
-        let [place, byte, file_len, used, standing] = given.pointers();
+        let [place, byte, file_len, used, standing, to_done] = given.pointers();
         let result = editor(
             call,
             &Given {
@@ -421,11 +504,16 @@ impl Asker {
                 standing,
                 place,
                 byte,
+                done: to_done,
             },
         );
         let mut kept = arguments.iter().zip(call.arguments());
-        given
-            .tell(result, &expected.map(|()| numbers(state).to_vec()))
+        let numbers = numbers(state).to_vec();
+        let outcome = match done {
+            Some(done) => given.tell_both(result, told, &[numbers, vec![done]].concat()),
+            None => given.tell(result, &told.map(|()| numbers)),
+        };
+        outcome
             .and_then(|()| file.holds(&state.file))
             .and_then(|()| journal.holds(&state.journal))
             .and_then(|()| kept.try_for_each(|(lent, bytes)| lent.holds(bytes)))
@@ -454,14 +542,14 @@ fn on_bindings(
     call: &Call,
     own: &mut State,
     state: &State,
-    expected: Result<(), Refusal>,
+    (expected, expected_done): Counted<Refusal>,
 ) -> Result<(), String> {
-    let answer = with_buffers(own, |buffers| call.on_buffers(buffers));
+    let (answer, done) = with_buffers(own, |buffers| call.counted_on_buffers(buffers));
     bound(answer, expected)?;
-    match own == state {
+    match (&*own, done) == (state, expected_done) {
         true => Ok(()),
         false => Err(format!(
-            "the bindings left  {own:?}\nthe reference      {state:?}"
+            "the bindings left  {own:?}, done {done:?}\nthe reference      {state:?}, done {expected_done:?}"
         )),
     }
 }

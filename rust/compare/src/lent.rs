@@ -88,11 +88,11 @@ impl Lent {
     }
 }
 
-/// The numbers of a call: its place, its byte and up to three more, which may go in as well as come out, with guards between
-/// them.
+/// The numbers of a call: its place, its byte, up to three more, which may go in as well as come out, and one more that comes
+/// out, with guards between them.
 pub struct Numbers {
-    slots: [u64; 11],
-    given: [u64; 3],
+    slots: [u64; 13],
+    given: [u64; 4],
 }
 
 /// What every number is before the call that does not go in, and every guard.
@@ -105,8 +105,10 @@ impl Numbers {
 
     /// Three numbers that go in.
     pub fn given(given: [u64; 3]) -> Numbers {
-        let mut slots = [BEFORE; 11];
+        let mut slots = [BEFORE; 13];
         [slots[5], slots[7], slots[9]] = given;
+        let [first, second, third] = given;
+        let given = [first, second, third, BEFORE];
         Numbers { slots, given }
     }
 
@@ -123,29 +125,39 @@ impl Numbers {
         u64::from_ne_bytes(bytes)
     }
 
-    /// Pointers to the place, the byte and the three further numbers.
-    pub fn pointers(&mut self) -> [*mut u64; 5] {
+    /// Pointers to the place, the byte and the four further numbers.
+    pub fn pointers(&mut self) -> [*mut u64; 6] {
         let start = self.slots.as_mut_ptr();
-        [1, 3, 5, 7, 9].map(|slot| start.wrapping_add(slot))
+        [1, 3, 5, 7, 9, 11].map(|slot| start.wrapping_add(slot))
     }
 
     /// Whether the call told this: the numbers of its answer, or a refusal.
     pub fn tell(&self, result: u32, expected: &Result<Vec<u64>, Refusal>) -> Result<(), String> {
-        let (refusal, answer) = match expected {
-            Ok(answer) => (Refusal::new(0), &answer[..]),
-            Err(refusal) => (*refusal, &[][..]),
-        };
+        match expected {
+            Ok(answer) => self.tell_both(result, Ok(()), answer),
+            Err(refusal) => self.tell_both(result, Err(*refusal), &[]),
+        }
+    }
+
+    /// Whether the call told this, accepted or refused, and these numbers in either case.
+    pub fn tell_both(
+        &self,
+        result: u32,
+        expected: Result<(), Refusal>,
+        answer: &[u64],
+    ) -> Result<(), String> {
+        let refusal = expected.err().unwrap_or(Refusal::new(0));
         if self.slots.iter().step_by(2).any(|guard| *guard != BEFORE) {
             return Err("a number beside the lent ones was written".into());
         }
-        let more = [0, 1, 2].map(|at| answer.get(at).copied().unwrap_or(self.given[at]));
-        let [_, place, _, byte, _, first, _, second, _, third, _] = self.slots;
+        let more = [0, 1, 2, 3].map(|at| answer.get(at).copied().unwrap_or(self.given[at]));
+        let [_, place, _, byte, _, first, _, second, _, third, _, fourth, _] = self.slots;
         let told = Refusal {
             number: result,
             place,
             byte,
         };
-        let found = [first, second, third];
+        let found = [first, second, third, fourth];
         if (told, found) == (refusal, more) {
             return Ok(());
         }
@@ -158,14 +170,14 @@ impl Numbers {
 }
 
 /// A result, its place and byte and its further numbers.
-fn words(told: Refusal, numbers: [u64; 3]) -> String {
+fn words(told: Refusal, numbers: [u64; 4]) -> String {
     let word = |number| match number {
         BEFORE => "-".to_string(),
         number => number.to_string(),
     };
     let (result, place, byte) = (told.number, word(told.place), word(told.byte));
-    let [first, second, third] = numbers.map(word);
-    format!("result {result}, place {place}, byte {byte}, numbers {first} {second} {third} (-: not written)")
+    let numbers = numbers.map(word).join(" ");
+    format!("result {result}, place {place}, byte {byte}, numbers {numbers} (-: not written)")
 }
 
 impl Default for Numbers {

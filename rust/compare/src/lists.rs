@@ -1,9 +1,10 @@
 //! Makes lists of calls that edit: sound starts, worked journals, damaged and foreign ones, and those near the bounds. The same
-//! journals serve where the person of a record is asked for, and where edits are forgotten.
+//! journals serve where the person of a record is asked for, where edits are forgotten, and for single batches.
 
 use reference::{RecordKind, State};
 
-use crate::calls::Case;
+use crate::batches;
+use crate::calls::{Ask, Case};
 use crate::edits::{Call, Kind, List};
 use crate::files;
 use crate::persons::Question;
@@ -78,21 +79,14 @@ fn continued(start: State, old_calls: usize, calls: usize, random: &mut Random) 
         .collect();
     for number in 0..old_calls + calls {
         let is_old = number < old_calls;
-        let ask = &asks[random.below(asks.len())];
-        // 01 has no forget.
-        let kind = match random.below(if is_old { 20 } else { 23 }) {
-            0..=7 => Kind::Set,
-            8..=11 => Kind::Remove,
-            12..=16 => Kind::Undo,
-            17..=19 => Kind::Redo,
-            _ => Kind::Forget(how_many(&state, random)),
+        // 01 has no forget and no batch.
+        let mut made = match random.below(if is_old { 20 } else { 26 }) {
+            0..=11 => single(&asks, random),
+            12..=16 => Call::step(Kind::Undo),
+            17..=19 => Call::step(Kind::Redo),
+            20..=22 => Call::step(Kind::Forget(how_many(&state, random))),
+            _ => batches::of_names(&asks, 8, random),
         };
-        let key = if random.once_in(4) {
-            &ask.plain
-        } else {
-            &ask.key
-        };
-        let mut made = call(kind, &ask.group, key, random);
         if is_old {
             made = made.old();
         }
@@ -137,6 +131,20 @@ pub fn person(random: &mut Random) -> u16 {
         4 => 65_535,
         _ => random.number() as u16,
     }
+}
+
+/// A set or a remove of one of these names.
+pub fn single(asks: &[Ask], random: &mut Random) -> Call {
+    let ask = &asks[random.below(asks.len())];
+    let kind = match random.once_in(3) {
+        true => Kind::Remove,
+        false => Kind::Set,
+    };
+    let key = match random.once_in(4) {
+        true => &ask.plain,
+        false => &ask.key,
+    };
+    call(kind, &ask.group, key, random)
 }
 
 /// A call, with as many arguments as its kind takes.

@@ -30,6 +30,13 @@ const FROM_SOUND: Outcomes = &[
     ("forget all that stand", &[0]),
     ("forget some that wait", &[12]),
     ("forget more than there are", &[12]),
+    ("batch, empty", &[0]),
+    ("batch, all done", &[0]),
+    ("batch, stopped at once", &[6, 7, 8, 10, 11, 13, 17]),
+    ("batch, stopped later", &[7, 8, 10, 11, 13, 17]),
+    ("batch, list not filled", &[14]),
+    ("batch, another kind", &[14]),
+    ("batch, inner lengths", &[14]),
 ];
 
 #[test]
@@ -61,6 +68,8 @@ fn spoilt_starts() {
         ("remove", file),
         ("undo", file),
         ("redo", file),
+        ("batch on a bad file", &[2, 3, 4, 5, 6]),
+        ("batch, empty on a bad file", &[2, 3, 4, 5, 6]),
         // The file is not asked.
         ("forget none", &[0]),
         ("forget all that stand", &[0]),
@@ -86,6 +95,12 @@ fn damaged_journals_and_wrong_numbers() {
         ("forget, standing over used", &[14]),
         ("forget, damaged records", &[14]),
         ("forget, standing inside a record", &[14]),
+        ("batch, all done", &[0]),
+        ("batch, file over the room", &[14]),
+        ("batch, used over the room", &[14]),
+        ("batch, standing over used", &[14]),
+        ("batch, damaged records", &[14]),
+        ("batch, standing inside a record", &[14]),
     ];
     let test = "damaged_journals_and_wrong_numbers";
     run(test, DAMAGED, outcomes, lists::damaged);
@@ -99,6 +114,8 @@ fn foreign_journals() {
         ("forget some that stand", &[0]),
         ("forget all that stand", &[0]),
         ("forget some that wait", &[12]),
+        ("batch, all done", &[0]),
+        ("batch, stopped later", &[8, 11, 13]),
     ];
     run("foreign_journals", FOREIGN, outcomes, lists::foreign);
 }
@@ -151,11 +168,11 @@ fn buffers_of_every_size() {
             for key in ["Name", "Name[fr]", "Exec", "Icon"] {
                 for (group, text) in [("Desktop Entry", " Les\n"), ("X", "1"), ("X", "")] {
                     let call = Call {
-                        kind,
                         record: RecordKind::Four(0x1234),
                         group: group.into(),
                         key: key.into(),
                         text: text.into(),
+                        ..Call::step(kind)
                     };
                     let before = || Call::set("Exec", b"x");
                     for (old_calls, calls) in [

@@ -119,7 +119,8 @@ fn lists_with_a_call_or_a_record_less() {
 fn made(state: &State, call: &Call) -> (Result<(), Refusal>, State) {
     let mut left = state.clone();
     let told = with_buffers(&mut left, |buffers| call.on_buffers(buffers));
-    assert!(told.is_ok() || left == *state, "{}", call.name());
+    let may_change = told.is_ok() || call.kind == Kind::Batch;
+    assert!(may_change || left == *state, "{}", call.name());
     (told, left)
 }
 

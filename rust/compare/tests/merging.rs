@@ -82,11 +82,11 @@ fn call(kind: Kind, Name { group, key }: &Name, random: &mut Random) -> Call {
         false => pieces::value(random, pieces::SOUND),
     };
     Call {
-        kind,
         record: RecordKind::Four(lists::person(random)),
         group: group.clone(),
         key: key.clone(),
         text,
+        ..Call::step(kind)
     }
 }
 

@@ -64,6 +64,33 @@ fn a_number_that_is_wrong_missing_or_too_many() {
     assert!(without.tell(0, &accepted).is_ok());
 }
 
+/// Numbers that are written where the call is refused, too.
+#[test]
+fn a_number_of_a_refusal_that_is_wrong_or_missing() {
+    let expected = [1, 2, 3, 4];
+    let told = |written: [Option<u64>; 4]| {
+        let mut numbers = Numbers::given([7, 8, 9]);
+        let [place, byte, to_numbers @ ..] = numbers.pointers();
+        // SAFETY: all point into `numbers`.
+        unsafe {
+            (*place, *byte) = (0, 0);
+            for (to, number) in to_numbers.into_iter().zip(written) {
+                *to = number.unwrap_or(*to);
+            }
+        }
+        let refused = Err(Refusal::new(8));
+        numbers.tell_both(8, refused, &expected).is_ok()
+    };
+    assert!(told(expected.map(Some)));
+    for at in 0..4 {
+        for wrong in [None, Some(0), Some(expected[at] + 1)] {
+            let mut written = expected.map(Some);
+            written[at] = wrong;
+            assert!(!told(written), "{at} {wrong:?}");
+        }
+    }
+}
+
 /// A check that tells another byte: how it comes to its byte, from the file, its line and the right byte.
 macro_rules! wrong_checks {
     ($($name:ident: |$file:ident, $line:ident, $byte:ident| $wrong:expr;)*) => {
@@ -156,7 +183,7 @@ fn spoilt(name: &'static str, accepted: bool, wrong: Wrong) -> impl Fn(&Call, &G
     }
 }
 
-const NAMES: [&str; 5] = ["set", "remove", "undo", "redo", "forget"];
+const NAMES: [&str; 6] = ["set", "remove", "undo", "redo", "forget", "batch"];
 
 #[test]
 fn the_proved_editor_is_right() {
@@ -166,12 +193,13 @@ fn the_proved_editor_is_right() {
 /// SAFETY of all: they write to what the comparison lent, and read where it has bytes.
 #[test]
 fn an_edit_that_writes_something_wrong() {
-    let wrongs: [(&str, Wrong); 10] = [
+    let wrongs: [(&str, Wrong); 11] = [
         ("the file's length", |given| unsafe { *given.file_len ^= 1 }),
         ("used", |given| unsafe { *given.used ^= 1 }),
         ("standing", |given| unsafe { *given.standing ^= 2 }),
         ("place", |given| unsafe { *given.place += 1 }),
         ("byte", |given| unsafe { *given.byte += 1 }),
+        ("done", |given| unsafe { *given.done ^= 1 }),
         ("a byte before the file", |given| {
             if given.file.1 > 0 {
                 unsafe { *given.file.0.offset(-1) ^= 1 }
@@ -290,11 +318,15 @@ fn by_reference(call: &Call, given: &Given, behind: usize) -> u32 {
             used: *given.used,
             standing: *given.standing,
         };
-        let (number, place, byte) = match call.on_state(&mut state) {
+        let (told, done) = call.counted_on_state(&mut state);
+        let (number, place, byte) = match told {
             Ok(()) => (0, 0, 0),
             Err(refusal) => (refusal.number, refusal.place, refusal.byte),
         };
         (*given.place, *given.byte) = (place, byte);
+        if let Some(done) = done {
+            *given.done = done;
+        }
         given
             .file
             .0
@@ -613,14 +645,29 @@ impl Kept {
         }
     }
 
+    /// The sets and removes of a call, up to the first that is refused.
+    fn edits(&self, call: &Call) -> Vec<Call> {
+        let singles = match call.kind {
+            Kind::Set | Kind::Remove => vec![call.clone()],
+            _ => call.singles().unwrap_or_default(),
+        };
+        let mut book = self.book.clone();
+        let singles = singles.into_iter();
+        singles
+            .take_while(|single| single.on_book(&mut book).is_ok())
+            .collect()
+    }
+
     fn page(&mut self, call: &Call) -> Page {
+        let edits = self.edits(call);
         let page = Page::of(call, &mut self.book);
+        if !edits.is_empty() {
+            self.standing.extend(edits);
+            self.waiting.clear();
+        }
         match call.kind {
+            Kind::Set | Kind::Remove | Kind::Batch => {}
             _ if page.told.is_err() => {}
-            Kind::Set | Kind::Remove => {
-                self.standing.push(call.clone());
-                self.waiting.clear();
-            }
             Kind::Undo => self.waiting.extend(self.standing.pop()),
             Kind::Redo => self.standing.extend(self.waiting.pop()),
             Kind::Forget(k) => {
@@ -650,6 +697,31 @@ fn is_book_noticed(wrong: WrongPage) -> bool {
         };
         asker.edits_in_book(&list, &proved, &mut book).is_err()
     })
+}
+
+#[test]
+fn a_book_that_has_a_batch_wrongly() {
+    let wrongs: [(&str, WrongPage); 3] = [
+        ("edits before a refusal are gone", |kept, call, page| {
+            if call.kind == Kind::Batch && page.told.is_err() {
+                page.file = kept.fresh.file();
+            }
+        }),
+        ("one request for all", |_, call, page| {
+            if call.kind == Kind::Batch && page.told.is_ok() {
+                page.persons.pop();
+            }
+        }),
+        ("the refused one is not tried", |_, call, page| {
+            if call.kind == Kind::Batch {
+                page.told = Ok(());
+            }
+        }),
+    ];
+    assert!(!is_book_noticed(|_, _, _| {}));
+    for (what, wrong) in wrongs {
+        assert!(is_book_noticed(wrong), "{what}");
+    }
 }
 
 #[test]

@@ -99,6 +99,8 @@ struct Counts {
     mixed: u64,
     after_undo_or_redo: u64,
     after_forgetting: u64,
+    /// Records that batches made.
+    by_batches: u64,
 }
 
 /// The person told of a record is the one that was given to the call that made it; no undo or redo changes one. Where edits are
@@ -117,15 +119,21 @@ fn the_person_told_is_the_one_given() {
         let mut given = vec![Person::NOBODY; old_records];
         with_buffers(&mut left, |buffers| {
             for call in &list.calls {
-                let accepted = call.on_buffers(buffers).is_ok();
+                let (told, done) = call.counted_on_buffers(buffers);
+                let accepted = told.is_ok();
+                let done = match call.kind {
+                    Kind::Set | Kind::Remove => u64::from(accepted),
+                    _ => done.unwrap_or(0),
+                };
+                if done > 0 {
+                    given.truncate(standing);
+                    old_records = old_records.min(standing);
+                    given.extend(vec![Person(call.record.person()); done as usize]);
+                    standing += done as usize;
+                }
                 match call.kind {
+                    Kind::Set | Kind::Remove | Kind::Batch => {}
                     _ if !accepted => {}
-                    Kind::Set | Kind::Remove => {
-                        given.truncate(standing);
-                        old_records = old_records.min(standing);
-                        given.push(Person(call.record.person()));
-                        standing += 1;
-                    }
                     Kind::Undo => standing -= 1,
                     Kind::Redo => standing += 1,
                     Kind::Forget(k) => {
@@ -147,6 +155,7 @@ fn the_person_told_is_the_one_given() {
                 let is_mixed = 0 < old_records && old_records < given.len();
                 counts.mixed += told * u64::from(is_mixed);
                 match call.kind {
+                    Kind::Batch => counts.by_batches += done,
                     Kind::Undo | Kind::Redo if accepted => counts.after_undo_or_redo += told,
                     Kind::Forget(1..) if accepted => counts.after_forgetting += told,
                     _ => {}
@@ -162,11 +171,12 @@ fn the_person_told_is_the_one_given() {
             mixed,
             after_undo_or_redo,
             after_forgetting,
+            by_batches,
         } = counts;
         assert!(
             told > 100_000 && waiting > 10_000 && mixed > 10_000 && after_undo_or_redo > 10_000
         );
-        assert!(after_forgetting > 1_000);
+        assert!(after_forgetting > 1_000 && by_batches > 1_000);
     }
 }
 
@@ -199,10 +209,13 @@ fn calls_of_one_kind_leave_records_of_one_kind() {
                 |state: &mut State| with_buffers(state, |buffers| call.on_buffers(buffers)).is_ok();
             on_library(&mut state);
             by_persons += records_of_kind(4, &state);
-            if matches!(call.kind, Kind::Set | Kind::Remove) {
-                let _ = call.old().on_state(&mut old_state);
-            } else {
-                old_steps += u64::from(on_library(&mut old_state));
+            match call.kind {
+                Kind::Set | Kind::Remove => {
+                    let _ = call.old().on_state(&mut old_state);
+                }
+                // 01 has none.
+                Kind::Batch => {}
+                _ => old_steps += u64::from(on_library(&mut old_state)),
             }
             old += records_of_kind(1, &old_state);
         }

@@ -92,6 +92,9 @@ fn real_files_edited() {
         ("forget some that stand", &[0]),
         ("forget all that stand", &[0]),
         ("forget more than there are", &[12]),
+        ("batch, all done", &[0]),
+        ("batch, stopped at once", &[7, 8, 10, 11]),
+        ("batch, stopped later", &[7, 8, 10, 11]),
     ];
     let test = "real_files_edited";
     of_files(&real_files(), test, 20, 8, outcomes, |file, random| {

@@ -1,6 +1,7 @@
-//! Set, remove, undo and redo, who made an edit, and forgetting the oldest: over two lent buffers, and over a document that
-//! owns them.
+//! Set, remove, undo and redo, many edits at once, who made an edit, and forgetting the oldest: over two lent buffers, and over
+//! a document that owns them.
 
+use crate::batch::{requests_of, Batch, Request};
 use crate::{ffi, told, Refusal, FILE_BOUND};
 
 /// The most bytes that a journal may use.
@@ -23,7 +24,8 @@ pub struct Numbers {
     pub standing: u64,
 }
 
-/// A file and its journal, each in a buffer with room. A refused call changes neither a byte nor a number.
+/// A file and its journal, each in a buffer with room. A refused call changes neither a byte nor a number; only of
+/// [`Buffers::batch`] the edits before the refused one stay done.
 #[derive(Debug)]
 pub struct Buffers<'a> {
     pub file: &'a mut [u8],
@@ -31,9 +33,10 @@ pub struct Buffers<'a> {
     pub numbers: &'a mut Numbers,
 }
 
-/// Makes a call of the C interface with both buffers, their numbers, the person and the slices, and tells what it answered.
+/// Makes a call of the C interface with both buffers, their numbers, the person, the slices and perhaps one more number, and
+/// tells what it answered.
 macro_rules! edited {
-    ($call:path, $buffers:expr $(; $person:expr $(, $slice:expr)*)?) => {{
+    ($call:path, $buffers:expr $(; $person:expr $(, $slice:expr)* $(; $number:expr)?)?) => {{
         let Buffers {
             file,
             journal,
@@ -52,6 +55,7 @@ macro_rules! edited {
                 $($person.0, $($slice.as_ptr(), $slice.len(),)*)?
                 place,
                 byte,
+                $($(&mut $number,)?)?
             )
         })
     }};
@@ -82,6 +86,18 @@ impl Buffers<'_> {
     /// Makes the next edit that waits once more: 14, 1 to 6, 14, 12, 14, 11, 14.
     pub fn redo(&mut self) -> Result<(), Refusal> {
         edited!(ffi::kveldrim_redo, self)
+    }
+
+    /// Makes the edits of a list in turn, as [`Buffers::set`] and [`Buffers::remove`] make them, and stops at the first that is
+    /// refused. Those before it stand and can be undone one at a time. [`requests_of`] makes the list: 14, 1 to 6, 14 of the
+    /// journal and of the list, with none done; then 7, 10, 8, 6, 17, 11, 13 of one request.
+    pub fn batch(&mut self, person: Person, requests: &[u8]) -> Batch {
+        let mut done = 0;
+        let told = edited!(ffi::kveldrim_batch, self; person, requests; done);
+        Batch {
+            done,
+            stopped: told.err(),
+        }
     }
 
     /// The person of the journal's record of this number, from 0; the records that wait count too: 14, 12.
@@ -202,6 +218,25 @@ impl Document {
     /// As [`Buffers::redo`].
     pub fn redo(&mut self) -> Result<(), Refusal> {
         self.buffers().redo()
+    }
+
+    /// As [`Buffers::batch`], from requests.
+    ///
+    /// ```
+    /// use kveldrim::{Document, Kind, Person, Request, DESKTOP_ENTRY};
+    ///
+    /// let mut document = Document::new(b"[Desktop Entry]\nName=Read\nIcon=a\n");
+    /// let name = Request::Set { group: DESKTOP_ENTRY, key: b"Name", text: b"Lire" };
+    /// let icon = Request::Remove { group: DESKTOP_ENTRY, key: b"Icon" };
+    /// let batch = document.batch(Person(7), &[name, icon, icon, name]);
+    /// assert_eq!(batch.done, 2);
+    /// assert_eq!(batch.stopped.map(|refusal| refusal.kind), Some(Kind::Missing));
+    /// assert_eq!(document.file(), b"[Desktop Entry]\nName=Lire\n");
+    /// document.undo().unwrap();
+    /// assert_eq!(document.file(), b"[Desktop Entry]\nName=Lire\nIcon=a\n");
+    /// ```
+    pub fn batch(&mut self, person: Person, requests: &[Request<'_>]) -> Batch {
+        self.buffers().batch(person, &requests_of(requests))
     }
 
     /// As [`Buffers::person`].

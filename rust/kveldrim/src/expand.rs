@@ -1,5 +1,6 @@
 //! Expands the Exec of a file into the arguments of one run. Nothing is started.
 
+use crate::records::{put, HEAD};
 use crate::{grown, told, Kind, Refusal};
 
 extern "C" {
@@ -21,9 +22,6 @@ extern "C" {
         written: *mut u64,
     ) -> u32;
 }
-
-/// The bytes before those of a record: its whole length (4 bytes, little-endian) and its kind (2 bytes).
-const HEAD: usize = 6;
 
 /// Writes the arguments of a run as records to the start of `out`, and answers how many bytes it wrote: 1 to 11, 14,
 /// 15, 16. [`list_of`] makes the list, [`Arguments`] reads the records.
@@ -101,12 +99,7 @@ pub fn runs(
 pub fn list_of(items: &[impl AsRef<[u8]>]) -> Vec<u8> {
     let mut list = Vec::new();
     for item in items {
-        let item = item.as_ref();
-        // A list over 65,536 bytes is refused anyway (14).
-        let length = u32::try_from(HEAD + item.len()).unwrap_or(u32::MAX);
-        list.extend(length.to_le_bytes());
-        list.extend([2, 0]);
-        list.extend(item);
+        put(&mut list, 2, item.as_ref());
     }
     list
 }

@@ -1,12 +1,13 @@
 //! The C interface, as `include/kveldrim.h` declares it. The safe functions of this crate stand over it.
 //!
 //! Every call: the result is the refusal's number, 0 if accepted; `place` and `byte` are always written, each other number
-//! only if accepted; no lent byte changes on a refusal. An empty slice may have any pointer.
+//! only if accepted; no lent byte changes on a refusal. [`kveldrim_batch`] alone does otherwise: its numbers are always
+//! written, and a refusal may leave earlier edits done. An empty slice may have any pointer.
 
 pub use crate::expand::kveldrim_expand;
 
 /// The number of the C interface that is declared here; [`kveldrim_abi`] tells that of the library.
-pub const ABI: u32 = 3;
+pub const ABI: u32 = 4;
 
 /// A call that asks of a file: the file, its length, place, byte.
 pub type FileCall = unsafe extern "C" fn(*const u8, usize, *mut u64, *mut u64) -> u32;
@@ -94,9 +95,10 @@ macro_rules! output_calls {
 
 output_calls! { kveldrim_read_text kveldrim_write_text kveldrim_read_list }
 
-/// Declares calls that edit: the two buffers with their numbers, which go in and come out, the arguments, place, byte.
+/// Declares calls that edit: the two buffers with their numbers, which go in and come out, the arguments, place, byte, and a
+/// further number if there is one.
 macro_rules! edit_calls {
-    ($($name:ident($($argument:ident: $type:ty),*))*) => {
+    ($($name:ident($($argument:ident: $type:ty),* $(; $number:ident)?))*) => {
         extern "C" {
             $(pub fn $name(
                 file: *mut u8,
@@ -109,6 +111,7 @@ macro_rules! edit_calls {
                 $($argument: $type,)*
                 place: *mut u64,
                 byte: *mut u64,
+                $($number: *mut u64,)?
             ) -> u32;)*
         }
     };
@@ -127,4 +130,5 @@ edit_calls! {
     kveldrim_remove(person: u16, group: *const u8, group_len: usize, key: *const u8, key_len: usize)
     kveldrim_undo()
     kveldrim_redo()
+    kveldrim_batch(person: u16, requests: *const u8, requests_len: usize; done)
 }

@@ -1,7 +1,8 @@
 //! Safe bindings over Kveldrim, the proved core for `.desktop` files (Desktop Entry Specification 1.5).
 //!
 //! A file is a slice of bytes; nothing is kept between calls. Every call gives its answer or a [`Refusal`], and a
-//! refusal changes no byte of an output. [`Document`] edits a file with undo, tells who made an edit, and forgets the oldest.
+//! refusal changes no byte of an output. [`Document`] edits a file with undo, makes many edits at once, tells who made an edit,
+//! and forgets the oldest.
 //!
 //! ```
 //! let file = b"[Desktop Entry]\nType=Application\nName=Read\nName[fr]=Lire\nExec=view %F\n";
@@ -11,13 +12,16 @@
 //! assert_eq!((refusal.kind, refusal.place, refusal.byte), (kveldrim::Kind::BadLine, 2, 4));
 //! ```
 
+mod batch;
 mod edit;
 mod expand;
 pub mod ffi;
+mod records;
 mod refusal;
 
 use std::ops::Range;
 
+pub use batch::{requests_of, Batch, Request};
 pub use edit::{Buffers, Document, Edit, Edits, Numbers, Person, JOURNAL_BOUND};
 pub use expand::{expand, expand_args, list_of, runs, Arguments};
 pub use refusal::{Kind, Place, Refusal};

@@ -1,7 +1,8 @@
 //! The bindings on their own: the examples of the rules, and the words of refusals.
 
 use kveldrim::{
-    Buffers, Document, Edit, Edits, Elements, Kind, Numbers, Person, Place, Refusal, DESKTOP_ENTRY,
+    Batch, Buffers, Document, Edit, Edits, Elements, Kind, Numbers, Person, Place, Refusal,
+    DESKTOP_ENTRY,
 };
 
 const T: &[u8] = b"[Desktop Entry]\nType=Application\nName=Lesen\nName[fr]=Lire\nExec=view %F\n";
@@ -59,6 +60,11 @@ fn bytes_of_bad_lines() {
     assert_eq!(document.remove(SEVEN, DESKTOP_ENTRY, b"Name"), Err(told));
     assert_eq!(document.undo(), Err(told));
     assert_eq!(document.redo(), Err(told));
+    let stopped = Batch {
+        done: 0,
+        stopped: Some(told),
+    };
+    assert_eq!(document.batch(SEVEN, &[]), stopped);
     assert_eq!(document.file(), bad);
 }
 

@@ -176,12 +176,16 @@ const LOOKUP: &str = "Example: a lookup";
 const EDIT: &str = "Example: an edit and its undo";
 const PERSONS: &str = "Example: who made each edit";
 const FULL: &str = "Example: an edit in a full journal";
+const BATCH: &str = "Example: many edits at once, all or none";
 
 #[test]
 fn no_example_is_left_out() {
     let headings = HEADER.lines().filter_map(|line| line.strip_prefix(" * "));
     let examples = headings.filter(|heading| heading.starts_with("Example"));
-    assert_eq!(examples.collect::<Vec<_>>(), [LOOKUP, EDIT, PERSONS, FULL]);
+    assert_eq!(
+        examples.collect::<Vec<_>>(),
+        [LOOKUP, EDIT, PERSONS, FULL, BATCH]
+    );
 }
 
 /// The code that stands indented under a heading of the header's first comment.
@@ -263,6 +267,24 @@ fn the_example_of_a_full_journal() {
     let program = C.program("full", &HEADERS, &(example(EDIT) + &example(FULL) + TELL));
     let told = format!("{}, used 0, standing 0", Kind::First);
     assert_eq!(run(&program, b"").1, told);
+}
+
+/// The first record has 20 bytes, Lesen and Book, the second 20 and the line of Icon.
+#[test]
+fn the_example_of_a_batch() {
+    let left = "\nif (refused != 0) fwrite(file, 1, file_len, stdout);";
+    let code = [&example(EDIT), &example(BATCH), left, TELL].concat();
+    let program = C.program("batch", &HEADERS, &code);
+    let told = |file: &str| run(&program, file.as_bytes());
+    let done = "accepted, used 55, standing 55".to_string();
+    let book = T.replace("Lesen", "Book");
+    assert_eq!(told(&format!("{T}Icon=\n")), (book, done));
+    // Without Icon the set is taken back; its record waits.
+    let undone = format!("{}, used 29, standing 0", Kind::Missing);
+    assert_eq!(told(T), (T.into(), undone));
+    let refused = format!("{}, used 0, standing 0", Kind::NoPlain);
+    let bad = format!("{T}Icon[de]=x\n");
+    assert_eq!(told(&bad), (bad.clone(), refused));
 }
 
 /// The record in the header is the one that its edit writes.

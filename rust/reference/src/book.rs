@@ -1,5 +1,5 @@
 //! Paper 01, "Edits and the journal", its last paragraph: the book of demand 3; paper 02, A9: the book of mixed journals; A10:
-//! the book after edits are forgotten.
+//! the book after edits are forgotten. Of a batch (A4) it is fed "the single calls tried, the refused one too".
 
 use crate::edit::{edit, edit_within, Request};
 use crate::records::RecordKind;

@@ -1,9 +1,9 @@
-//! Paper 01, "Edits and the journal": set, remove, undo and redo over the lent buffers. Paper 02, A9: who made an edit; A10:
-//! forgetting the oldest edits.
+//! Paper 01, "Edits and the journal": set, remove, undo and redo over the lent buffers. Paper 02, A4: many requests at once; A9:
+//! who made an edit; A10: forgetting the oldest edits.
 
 use crate::edit::{edit_within, replace, Request};
 use crate::file::check;
-use crate::records::{read_journal, write_journal_record, Record, RecordKind};
+use crate::records::{read_journal, read_requests, write_journal_record, Record, RecordKind};
 use crate::refusal::{Refusal, FILE_BOUND, RECORDS_BOUND};
 
 /// The two lent buffers, the file's length, and the journal's two numbers: bytes used and bytes standing.
@@ -39,6 +39,35 @@ pub fn remove(s: &mut State, kind: RecordKind, group: &[u8], key: &[u8]) -> Resu
         key: key.to_vec(),
     };
     perform(s, kind, &request)
+}
+
+/// "The answer tells how many were done", and a refusal is "reported with the number done".
+#[derive(Debug, Clone, Copy, PartialEq, Eq)]
+pub struct Batch {
+    pub done: u64,
+    pub stopped: Option<Refusal>,
+}
+
+/// "One call shall take a list of set and remove requests and do exactly what the single calls would do in turn, stopping at the
+/// first refused one"; "a batch one [person] for all".
+pub fn batch(s: &mut State, person: u16, list: &[u8]) -> Batch {
+    let mut done = 0;
+    let told = in_turn(s, RecordKind::Four(person), list, &mut done);
+    Batch {
+        done,
+        stopped: told.err(),
+    }
+}
+
+/// "Faults of lengths, file, journal and list (14) come first, even for an empty list, with nothing done; else the stopped
+/// request's own."
+fn in_turn(s: &mut State, kind: RecordKind, list: &[u8], done: &mut u64) -> Result<(), Refusal> {
+    sound(s)?;
+    for request in read_requests(list).ok_or(Refusal::new(14))? {
+        perform(s, kind, &request)?;
+        *done += 1;
+    }
+    Ok(())
 }
 
 /// "A set or remove writes at standing; both numbers are then its record's end."

@@ -1,5 +1,7 @@
-//! Paper 01, "Building a command" (records of kinds 2 and 3) and "Edits and the journal" (of kind 1); paper 02, A9 (of kind 4).
+//! Paper 01, "Building a command" (records of kinds 2 and 3) and "Edits and the journal" (of kind 1); paper 02, A9 (of kind 4)
+//! and A4 (of kinds 5 and 6).
 
+use crate::edit::Request;
 use crate::refusal::{Refusal, RECORDS_BOUND};
 
 /// Length and kind, before the bytes of a record.
@@ -54,20 +56,57 @@ fn read_4(bytes: &[u8], at: usize) -> Option<u32> {
 
 /// "Length of the whole (4), kind 2 (2), then the bytes", filling the list; none if it is damaged.
 pub fn read_records(list: &[u8], kind: u16) -> Option<Vec<&[u8]>> {
+    let of_kind = |(other, bytes)| (other == kind).then_some(bytes);
+    split_list(list)?.into_iter().map(of_kind).collect()
+}
+
+/// The requests of a list, "(5 set, 6 remove)"; none if it is damaged.
+pub fn read_requests(list: &[u8]) -> Option<Vec<Request>> {
+    let request = |(kind, bytes)| read_request(kind, bytes);
+    split_list(list)?.into_iter().map(request).collect()
+}
+
+/// "Then group, key with postfix and, for 5, the text, each after its own 4-byte length."
+fn read_request(kind: u16, mut rest: &[u8]) -> Option<Request> {
+    let mut fields = Vec::new();
+    while !rest.is_empty() {
+        let length = usize::try_from(read_4(rest, 0)?).ok()?;
+        let field = rest[4..].get(..length)?;
+        fields.push(field.to_vec());
+        rest = &rest[4 + length..];
+    }
+    match (kind, &fields[..]) {
+        (5, [group, key, text]) => Some(Request::Set {
+            group: group.clone(),
+            key: key.clone(),
+            text: text.clone(),
+        }),
+        (6, [group, key]) => Some(Request::Remove {
+            group: group.clone(),
+            key: key.clone(),
+        }),
+        _ => None,
+    }
+}
+
+/// The kind and the bytes of each record of a list. "A list over 65,536 bytes or not filled exactly by its records is damaged":
+/// then none.
+fn split_list(list: &[u8]) -> Option<Vec<(u16, &[u8])>> {
     if list.len() as u64 > RECORDS_BOUND {
         return None;
     }
-    let mut items = Vec::new();
+    let mut records = Vec::new();
     let mut rest = list;
     while !rest.is_empty() {
         let length = usize::try_from(read_4(rest, 0)?).ok()?;
-        if read_2(rest, 4)? != kind || length < HEAD || length > rest.len() {
+        let kind = read_2(rest, 4)?;
+        if length < HEAD || length > rest.len() {
             return None;
         }
-        items.push(&rest[HEAD..length]);
+        records.push((kind, &rest[HEAD..length]));
         rest = &rest[length..];
     }
-    Some(items)
+    Some(records)
 }
 
 /// Records of one kind, "one after another from the start of the lent output"; 11 if they do not fit.

@@ -15,7 +15,7 @@ again-requires : tie.Need-again-requires
 again-requires c κs =
     let i = ready-fits _ (rw (c .before .before .before .before .before .before .enum-told .given .1) at (c .before .before .before .before .before .before .before .before .ready .ensures)) in
     let b = rw (c .before .before .start .given .1) at (c .before .before .before .before .last-standing .ensures .1) in
-    ((i .size-fits, i .size-bound), (omega arith, omega arith, omega arith, omega arith))
+    ((i .ready .size-fits, i .ready .size-bound), (omega arith, omega arith, omega arith, omega arith))
 
 returns : tie.Need-returns
 returns c = made-unready (undo-steps _) (rw (c .before .f .given .1) at (c .before .before .before .ready .ensures))

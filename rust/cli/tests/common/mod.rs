@@ -19,6 +19,9 @@ pub const T: &[u8] =
 /// The journal of a file `t`.
 pub const JOURNAL: &str = ".t.kveldrim-journal";
 
+/// A table that asks for what `set t Name x` does.
+pub const TABLE: &str = concat!(env!("CARGO_MANIFEST_DIR"), "/tests/common/table.csv");
+
 /// The bytes of a journal with the digest that follows them.
 pub fn with_digest(bytes: &[u8]) -> Vec<u8> {
     [bytes, &Sha256::digest(bytes)].concat()

@@ -62,6 +62,15 @@ pub fn records<A: AsRef<[u8]>>(kind: u16, items: &[A]) -> Vec<u8> {
     list
 }
 
+/// A record of a request: "group, key with postfix and, for 5, the text, each after its own 4-byte length".
+pub fn request(kind: u16, fields: &[&[u8]]) -> Vec<u8> {
+    let fields = fields.iter().map(|field| {
+        let length = (field.len() as u32).to_le_bytes();
+        [&length[..], field].concat()
+    });
+    records(kind, &[fields.collect::<Vec<_>>().concat()])
+}
+
 /// A journal record of a kind, with its own length.
 pub fn journal_record(kind: RecordKind, place: u32, old: &[u8], new: &[u8]) -> Vec<u8> {
     let (length, front) = match kind {

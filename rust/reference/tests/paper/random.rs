@@ -4,8 +4,8 @@ use crate::common::*;
 use reference::lines::{read_line, Line};
 use reference::text::utf8_fault;
 use reference::{
-    check, choose, complete, expand, forget, lookup, person, read_list, read_text, redo, remove,
-    set, undo, write_text, Book, RecordKind, Refusal, State,
+    batch, check, choose, complete, expand, forget, lookup, person, read_list, read_text, redo,
+    remove, set, undo, write_text, Batch, Book, RecordKind, Refusal, State,
 };
 
 /// A xorshift generator.
@@ -76,32 +76,42 @@ const TEXTS: [&[u8]; 8] = [
     b"0123456789012345678901234567890",
 ];
 
-/// One call: a set, remove, undo or redo, or so many edits forgotten.
+/// One call: a set, remove, undo or redo, so many edits forgotten, or sets and removes of one person at once.
 enum Call {
     Set(RecordKind, &'static [u8], &'static [u8], &'static [u8]),
     Remove(RecordKind, &'static [u8], &'static [u8]),
     Undo,
     Redo,
     Forget(u64),
+    Batch(u16, Vec<Call>),
 }
 
 impl Call {
     /// A random call of somebody.
     fn random(random: &mut Random) -> Call {
         let person = *random.pick(&[&0, &1, &255, &256, &0xFFFF]);
-        Call::of_kind(random, RecordKind::Four(person))
+        let kind = RecordKind::Four(person);
+        if random.below(4) > 0 {
+            return Call::of_kind(random, kind);
+        }
+        let count = random.below(5);
+        let singles = (0..count).map(|_| Call::single(random, kind));
+        Call::Batch(person, singles.collect())
     }
 
-    /// A random call; what it records is of this kind.
+    /// A random set or remove; its record is of this kind.
+    fn single(random: &mut Random, kind: RecordKind) -> Call {
+        let (group, key) = (random.pick(&GROUPS), random.pick(&KEYS));
+        match random.below(3) {
+            0 => Call::Remove(kind, group, key),
+            _ => Call::Set(kind, group, key, random.pick(&TEXTS)),
+        }
+    }
+
+    /// A random call, but no batch; what it records is of this kind.
     fn of_kind(random: &mut Random, kind: RecordKind) -> Call {
         match random.below(11) {
-            0..=3 => Call::Set(
-                kind,
-                random.pick(&GROUPS),
-                random.pick(&KEYS),
-                random.pick(&TEXTS),
-            ),
-            4..=5 => Call::Remove(kind, random.pick(&GROUPS), random.pick(&KEYS)),
+            0..=5 => Call::single(random, kind),
             6..=7 => Call::Undo,
             8..=9 => Call::Redo,
             _ => Call::Forget(*random.pick(&[&0, &1, &1, &1, &2, &3, &u64::MAX])),
@@ -116,6 +126,16 @@ impl Call {
             Call::Undo => undo(s),
             Call::Redo => redo(s),
             Call::Forget(k) => forget(&mut s.journal, &mut s.used, &mut s.standing, *k),
+            Call::Batch(person, singles) => batch_as_singles(s, *person, singles),
+        }
+    }
+
+    /// The record of a set or remove in a list.
+    fn record(&self) -> Vec<u8> {
+        match self {
+            Call::Set(_, group, key, text) => request(5, &[group, key, text]),
+            Call::Remove(_, group, key) => request(6, &[group, key]),
+            _ => Vec::new(),
         }
     }
 
@@ -127,14 +147,38 @@ impl Call {
             Call::Undo => book.undo(),
             Call::Redo => book.redo(),
             Call::Forget(k) => book.forget(*k),
+            // "The single calls tried, the refused one too, take the place of this one."
+            Call::Batch(_, singles) => singles.iter().try_for_each(|call| call.over_book(book)),
         }
     }
 }
 
-/// What each buffer holds after an accepted call: zeros where the file or the journal shrank, the rest unchanged.
+/// A batch, which does and tells what the single calls do and tell in a copy, unless there are none.
+fn batch_as_singles(s: &mut State, person: u16, singles: &[Call]) -> Result<(), Refusal> {
+    let mut copy = s.clone();
+    let mut done = 0;
+    let told = singles.iter().try_for_each(|call| {
+        call.over_state(&mut copy)?;
+        done += 1;
+        Ok(())
+    });
+    let list: Vec<_> = singles.iter().map(Call::record).collect();
+    let answer = batch(s, person, &list.concat());
+    let stopped = told.err();
+    match singles.is_empty() {
+        true => assert_eq!((answer.done, &copy), (0, &*s)),
+        false => assert_eq!((answer, &copy), (Batch { done, stopped }, &*s)),
+    }
+    answer.stopped.map_or(Ok(()), Err)
+}
+
+/// What each buffer holds after an accepted call: zeros where the file or the journal shrank, the rest unchanged. A batch was held
+/// against its single calls.
 fn ask_buffers(before: &State, after: &State, call: &Call) {
-    if let Call::Forget(_) = call {
-        return ask_forgotten(before, after);
+    match call {
+        Call::Forget(_) => return ask_forgotten(before, after),
+        Call::Batch(..) => return,
+        _ => {}
     }
     let (old, new) = (before.file_len as usize, after.file_len as usize);
     assert!(new >= old || after.file[new..old].iter().all(|byte| *byte == 0));
@@ -177,9 +221,9 @@ fn persons_of(s: &State) -> Vec<u16> {
 /// Lists of calls that start with some of 01's.
 #[test]
 fn journal_and_book_agree() {
-    let mut seen = [0; 18];
-    let (mut mixed, mut forgotten) = (0, 0);
-    for seed in 1..=240 {
+    let (mut seen, mut stopped) = ([0; 18], [0; 18]);
+    let (mut mixed, mut forgotten, mut batches) = (0, 0, 0);
+    for seed in 1..=400 {
         let mut random = Random::seeded(seed);
         let start = random.pick(&STARTS);
         let file_room = start.len() + random.below(120);
@@ -204,22 +248,33 @@ fn journal_and_book_agree() {
             forgotten += usize::from(is_forget && s.used < before.used);
             let of_kind_one = s.journal.get(4) == Some(&1);
             mixed += usize::from(of_kind_one && persons.iter().any(|person| *person > 0));
+            let is_batch = matches!(call, Call::Batch(..));
             match answer {
-                Ok(()) => ask_buffers(&before, &s, &call),
+                Ok(()) => {
+                    ask_buffers(&before, &s, &call);
+                    batches += usize::from(is_batch && s != before);
+                }
                 Err(refusal) => {
-                    assert_eq!(s, before);
+                    assert!(is_batch || s == before);
                     assert_eq!((refusal.place, refusal.byte), (0, 0));
                     seen[refusal.number as usize] += 1;
+                    stopped[refusal.number as usize] += usize::from(s != before);
                 }
             }
             assert_eq!(check(file_of(&s)), Ok(()));
         }
     }
-    assert!(mixed > 500 && forgotten > 300);
+    assert!(mixed > 500 && forgotten > 300 && batches > 100);
     for number in [6, 7, 8, 10, 11, 12, 13, 17] {
         assert!(seen[number] > 0, "refusal {number} never came");
     }
+    for number in [6, 7, 8, 10, 11, 13, 17] {
+        assert!(stopped[number] > 0, "{number} never came behind an edit");
+    }
 }
+
+/// An undo or a redo.
+type Step = fn(&mut State) -> Result<(), Refusal>;
 
 #[test]
 fn undo_after_an_edit_restores() {
@@ -234,28 +289,32 @@ fn undo_after_an_edit_restores() {
                 continue;
             }
             let mut back = s.clone();
-            match call {
+            let mut steps = 1;
+            match &call {
                 Call::Set(_, group, key, text) => {
                     let (start, end) = lookup(file_of(&s), group, key).unwrap();
                     assert_eq!(read(&s.file[start..end]), Ok(text.to_vec()));
-                    assert_eq!(undo(&mut back), Ok(()));
                 }
                 Call::Remove(_, group, key) => {
                     assert_eq!(lookup(file_of(&s), group, key), refused(8, 0));
-                    assert_eq!(undo(&mut back), Ok(()));
                 }
-                Call::Undo => assert_eq!(redo(&mut back), Ok(())),
-                Call::Redo => assert_eq!(undo(&mut back), Ok(())),
+                Call::Batch(_, singles) => steps = singles.len(),
+                Call::Undo | Call::Redo => {}
                 Call::Forget(_) => continue,
             }
             edits += 1;
+            let (there, again): (Step, Step) = match call {
+                Call::Undo => (redo, undo),
+                _ => (undo, redo),
+            };
+            for _ in 0..steps {
+                assert_eq!(there(&mut back), Ok(()));
+            }
             assert_eq!(file_of(&back), file_of(&before));
             assert_eq!(back.standing, before.standing);
-            let again = match call {
-                Call::Undo => undo(&mut back),
-                _ => redo(&mut back),
-            };
-            assert_eq!(again, Ok(()));
+            for _ in 0..steps {
+                assert_eq!(again(&mut back), Ok(()));
+            }
             assert_eq!(file_of(&back), file_of(&s));
         }
         // All the way back, one record after another.
@@ -317,6 +376,8 @@ fn hostile_states_are_answered() {
             Call::Undo,
             Call::Redo,
             Call::Forget(random.next() % 3),
+            Call::Batch(7, Vec::new()),
+            Call::Batch(7, vec![Call::Set(SEVEN, GROUPS[0], KEYS[5], TEXTS[3])]),
         ] {
             let mut after = s.clone();
             match call.over_state(&mut after) {

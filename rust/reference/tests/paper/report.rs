@@ -1,9 +1,9 @@
 //! The report of the program `crates/examples`, made from the reference's answers. The questions are written here again.
 
-use crate::common::{records, with_header, T};
+use crate::common::{records, request, with_header, T};
 use reference::{
-    check, choose, complete, expand, forget, lookup, person, read_list, read_text, set, write_text,
-    RecordKind, Refusal, State,
+    batch, check, choose, complete, expand, forget, lookup, person, read_list, read_text, set,
+    write_text, Batch, RecordKind, Refusal, State,
 };
 
 /// A call with an output.
@@ -196,6 +196,53 @@ fn journals() -> Vec<String> {
     [&[set][..], &asked, &forgotten].concat()
 }
 
+/// A batch by person 3 on a file with an empty journal of so many bytes.
+fn runs_batch(words: &str, file: &[u8], list: &[u8], room: usize) -> String {
+    let mut state = lent(file, 72, b"", room);
+    let Batch { done, stopped } = batch(&mut state, 3, list);
+    let refused = stopped.map_or(String::new(), |refusal| {
+        told(Err(refusal), |()| String::new()) + ", "
+    });
+    let numbers = numbers(state.used, state.standing);
+    let (file, journal) = (quote(&state.file), digits(&state.journal));
+    format!(
+        "batch: \"{words}\" by 3 with a journal of {room} bytes: {refused}{done} done, {} bytes, {numbers}, {file}, {journal}",
+        state.file_len
+    )
+}
+
+fn batches() -> Vec<String> {
+    let entry = b"Desktop Entry";
+    let name = request(5, &[entry, b"Name", b"Les"]);
+    let french = request(6, &[entry, b"Name[fr]"]);
+    let german = request(5, &[entry, b"URL[de]", b"a"]);
+    let plain = request(6, &[entry, b"Name"]);
+    let both = [&name[..], &french].concat();
+    let stopped = [&name[..], &german, &french].concat();
+    let remaining = [&plain[..], &name].concat();
+    let followed = [&name[..], b"."].concat();
+    let mut longer = name.clone();
+    longer[31] += 1;
+    let mut wider = [&french[..], b"."].concat();
+    wider[0] += 1;
+    vec![
+        runs_batch("set Name to Les, remove Name[fr]", T, &both, 62),
+        runs_batch("set Name to Les, remove Name[fr]", T, &both, 61),
+        runs_batch("nothing", T, b"", 62),
+        runs_batch(
+            "set Name to Les, set URL[de] to a, remove Name[fr]",
+            T,
+            &stopped,
+            62,
+        ),
+        runs_batch("remove Name, set Name to Les", T, &remaining, 62),
+        runs_batch("set Name to Les, and one byte", T, &followed, 62),
+        runs_batch("set Name to Les, a text one byte too long", T, &longer, 62),
+        runs_batch("remove Name[fr], and one byte in its record", T, &wider, 62),
+        runs_batch("nothing", b"[Desktop Entry]\nName\n", b"", 62),
+    ]
+}
+
 /// A run of a file's Exec for a locale at a location, with a list of files, into so many bytes.
 fn expands(
     file: &[u8],
@@ -224,7 +271,13 @@ fn edits() -> Vec<String> {
         sets_both(icon, url),
         sets_both(url, icon),
     ];
-    [&[29, 28, 27].map(sets_name)[..], &orders, &journals()].concat()
+    [
+        &[29, 28, 27].map(sets_name)[..],
+        &orders,
+        &journals(),
+        &batches(),
+    ]
+    .concat()
 }
 
 fn commands() -> Vec<String> {
