@@ -3,9 +3,11 @@ use mathlib.Core.Path.{_≡_, refl, sym, ap, ap₂, _∙_}
 use Prim.Native.Nat.{ℕ, zero, suc}
 use native.Mathlib.Omega.{arith}
 use mathlib.Core.Bool.{Bool, true, false, _&&_, _||_, false≢true}
+use mathlib.Core.Option.{Option, none, some}
 use mathlib.Core.List.{List, [], _∷_}
 use lib.Dec.{eqb, eqb·zero-suc, eqb·suc-zero, eqb·suc-suc}
 use borrow.Author.Tests.{eq-eqb, eqb-true}
+use Rattle.base.specs.Choice.{there}
 use Rattle.base.specs.Lists.{same, all}
 
 -- anything, where two constructors would be equal: `no (cc)`
@@ -16,6 +18,15 @@ no e = absurd (omega arith)
 pub by-test {ℓ} : {X : Type ℓ} (t : Bool) → (t ≡ true → X) → (t ≡ false → X) → X
 by-test true f g = f refl
 by-test false f g = g refl
+
+-- what is there, and that nothing is
+pub some-there : {A : Type 0} (o : Option A) → there o ≡ true → (a : A) × (o ≡ some a)
+some-there none h = no (cc)
+some-there (some a) h = (a, refl)
+
+pub none-there : {A : Type 0} (o : Option A) → there o ≡ false → o ≡ none
+none-there none h = refl
+none-there (some a) h = no (cc)
 
 pub and-both : (a b : Bool) → (a && b) ≡ true → (a ≡ true) × (b ≡ true)
 and-both true b e = (refl, e)

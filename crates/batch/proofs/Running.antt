@@ -9,19 +9,17 @@ use lib.ListN.{length, drop}
 use lib.Dec.{leb}
 use Rattle.base.specs.Choice.{pick, there}
 use Rattle.base.specs.Lists.{part}
-use Rattle.base.proofs.Tests.{no}
+use Rattle.base.proofs.Tests.{no, some-there, none-there}
 use Rattle.fault.specs.declared.Fault.{Fault}
 use Rattle.fault.specs.declared.Fault.the-variants.{Damaged}
 use Rattle.fault.specs.Answer.{Answer, given, refused, _>>=_, some-or}
-use Rattle.record.specs.Record.{Rec, whole, readRecords}
-use Rattle.record.specs.Walk.{readAt}
+use Rattle.record.specs.Record.{whole, readRecords}
 use Rattle.record.proofs.Place.{Stands}
 use Rattle.record.proofs.Each.{each-done, each-damaged, each-step, at-none, at-record}
 use Rattle.requests.specs.Requests.{Asked, readRequest, readRequests}
-use Rattle.change.specs.Change.{Request, editOf}
 use Rattle.journal.specs.Journal.{Author, by, personOf, Journal}
-use Rattle.edit.specs.Calls.{State, content, opened, request}
-use Rattle.edit.specs.Step.{lent, passed, appliedBy}
+use Rattle.edit.specs.Calls.{State, opened, request}
+use Rattle.edit.specs.Step.{lent, passed}
 use Rattle.edit.specs.Step as edit
 use Rattle.edit.specs.declared.Edited.{Edited}
 use Rattle.edit.specs.declared.Edited.the-variants as edited
@@ -50,10 +48,6 @@ opened-some : (a : Answer Journal) → given tt ≡ passed a → (j : Journal) �
 opened-some (given j) e = (j, refl)
 opened-some (refused f) e = no (cc)
 
-there-some : {A : Type 0} (o : Option A) → there o ≡ true → (a : A) × (o ≡ some a)
-there-some none e = no (cc)
-there-some (some a) e = (a, refl)
-
 requests-within : (list : List ℕ) {xs : List Asked} → readRequests list ≡ some xs → readRecords readRequest list ≡ some xs
 unfolding readRequests
 requests-within list {xs} = go (leb (length list) 65536)
@@ -74,7 +68,7 @@ begins s author list j xs e h = rw (e, h) (none-before (inTurn author (map reque
 pub run-begin : (s : State) (author : Author) (list : List ℕ) → given tt ≡ passed (opened s) → there (readRequests list) ≡ true → Running s author list 0 0 s
 run-begin s author list e h =
     let o = opened-some (opened s) e in
-    let x = there-some (readRequests list) h in
+    let x = some-there (readRequests list) h in
     record {
       inside = omega arith;
       few = omega arith;
@@ -181,10 +175,4 @@ module _ (s : State) (author : Author) (list : List ℕ) where
   -- the list
   pub not-read : given tt ≡ passed (opened s) → there (readRequests list) ≡ false → nothing s (some Damaged) ≡ batch s author list
   unfolding batch listed
-  not-read e h =
-      let o = opened-some (opened s) e in
-      rw (o .1) (go (readRequests list) h)
-    where
-      go : (o : Option (List Asked)) → there o ≡ false → nothing s (some Damaged) ≡ begun s author (some-or o Damaged >>= λ asked. given (map requestOf asked))
-      go none h = refl
-      go (some xs) h = no (cc)
+  not-read e h = rw (opened-some (opened s) e .1, none-there (readRequests list) h)

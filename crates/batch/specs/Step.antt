@@ -7,7 +7,6 @@ use lib.ListN.{take}
 use Rattle.requests.specs.Requests.{Asked, readRequest}
 use Rattle.change.specs.Change.{editOf}
 use Rattle.journal.specs.Journal.{Author}
-use Rattle.edit.specs.Calls.{content}
 use Rattle.edit.specs.Step.{lent, appliedBy}
 use Rattle.edit.specs.Step as edit
 use Rattle.edit.specs.declared.Edited.{Edited}

@@ -11,12 +11,14 @@ use lib.Dec.{eqb}
 use borrow.Author.Tests.{eq-eqb, ne-eqb}
 use Rattle.base.specs.Lists.{span, part, joined, any, last}
 use Rattle.base.proofs.Span.{span-le}
-use Rattle.base.proofs.Tests.{no}
+use Rattle.base.specs.Choice.{there}
+use Rattle.base.proofs.Search.{there-first, any-none, there-last}
+use Rattle.base.proofs.Tests.{no, by-test, some-there, none-there}
 use Rattle.fault.specs.declared.Fault.the-variants.{NoPlainKey, Missing, PostfixesRemain}
 use Rattle.text.specs.Class.{keyByte}
 use Rattle.line.specs.Form.{groupForm, keyForm}
 use Rattle.rows.specs.Rows.{Row, rows, lineOf, ended, readRows, rawValue}
-use Rattle.rows.specs.Title.{Key, title, sameTitle, findRow, has}
+use Rattle.rows.specs.Title.{Title, Nameless, Group, Key, title, sameTitle, findRow, has}
 use Rattle.rows.specs.Find.{toldOf}
 use Rattle.rows.specs.declared.Found.the-variants as found
 use Rattle.rows.proofs.Rows.{Found, RowBefore, full, open-end, rows-are, rows-after, line-clean, line-full, groupEnd}
@@ -105,6 +107,13 @@ row-end file xs row ys is = by (rows-after xs (row ∷ ys) (rw is at (rows-are f
 
 -- ---- a set
 
+-- a row outside the group is not the entry's
+other-group : (group key : List ℕ) (t : Title) → ofGroup group t ≡ false → sameTitle (Key group key) t ≡ false
+unfolding sameTitle
+other-group group key Nameless e = refl
+other-group group key (Group g) e = refl
+other-group group key (Key g k) e = rw e
+
 module _ (file group key : List ℕ) where
   -- the group's last row
   abbrev ends : Option Row
@@ -136,20 +145,39 @@ module _ (file group key : List ℕ) where
   unfolding setEdit
   set-no-group e = record { is = λ text. rw (slot-none ends e); inside = tt }
 
+  -- the entry is there, and so is its group
+  module _ {n start end value : ℕ} (y : found.Row n start end value ≡ toldOf entry) where
+    -- the group's last row
+    group-there : (s : Row) × (ends ≡ some s)
+    unfolding findRow
+    group-there =
+        by-test (any (λ r. ofGroup group (title r)) (readRows file))
+        (λ t. some-there ends (there-last (λ r. ofGroup group (title r)) (readRows file) ∙ t))
+        (λ t.
+        let a = told-row entry n start end value (sym y) in
+        let z : any (λ r. sameTitle (Key group key) (title r)) (readRows file) ≡ false = any-none (λ r. ofGroup group (title r)) (λ r. ofGroup group (title r)) (λ r. ofGroup group (title r)) (λ r. sameTitle (Key group key) (title r)) (λ r u v w. other-group group key (title r) u) (readRows file) t t t in
+        let w : there entry ≡ false = there-first (λ r. sameTitle (Key group key) (title r)) (readRows file) ∙ z in
+        no (cc (ap there (a .1))))
+
+    pub value-no-plain : false ≡ plain file group key → SetBy (target.Refused (NoPlainKey 0))
+    unfolding setEdit
+    value-no-plain p = record { is = λ text. rw (group-there .1, ← p); inside = tt }
+
+    pub set-value : true ≡ plain file group key → SetBy (target.Value value end)
+    set-value p =
+        let a = told-row entry n start end value (sym y) in
+        let o = group-there in
+        let b = told-bounds file (Key group key) n start end value (sym y) in
+        value-by (a .0) (o .0) (o .1) p (a .1) (a .2) (b .1, b .2)
+
+  -- the entry is absent
   module _ {at : ℕ} {after : Bool} (e : slot.At at after ≡ slotOf ends) where
     pub set-no-plain : false ≡ plain file group key → SetBy (target.Refused (NoPlainKey 0))
     unfolding setEdit
     set-no-plain p = record { is = λ text. rw (slot-row ends e .1, ← p); inside = tt }
 
-    pub set-value : true ≡ plain file group key → {n start end value : ℕ} → found.Row n start end value ≡ toldOf entry → SetBy (target.Value value end)
-    set-value p {n} {start} {end} {value} y =
-        let a = told-row entry n start end value (sym y) in
-        let o = slot-row ends e in
-        let b = told-bounds file (Key group key) n start end value (sym y) in
-        value-by (a .0) (o .0) (o .1) p (a .1) (a .2) (b .1, b .2)
-
-    pub set-entry : true ≡ plain file group key → found.Nothing ≡ toldOf entry → SetBy (target.Entry at after)
-    set-entry p y = let o = slot-row ends e in entry-by (o .0) (o .1) (o .2) (o .3) p (told-nothing entry (sym y))
+    pub set-entry : true ≡ plain file group key → there entry ≡ false → SetBy (target.Entry at after)
+    set-entry p y = let o = slot-row ends e in entry-by (o .0) (o .1) (o .2) (o .3) p (none-there entry y)
 
 -- ---- a remove
 

@@ -11,7 +11,7 @@ ghost use Prim.Native.Nat.{ℕ, _+_, _≤_, min};
 ghost use mathlib.Core.List.{List};
 ghost use lib.ListN.{length};
 ghost use lib.Dec.{ltb};
-ghost use Rattle.base.specs.Choice.{pick};
+ghost use Rattle.base.specs.Choice.{pick, there};
 ghost use Rattle.base.specs.Lists.{same, any, last};
 ghost use Rattle.text.specs.Escape.{rawText};
 ghost use Rattle.line.specs.Line.{readLine};
@@ -178,26 +178,38 @@ fn has_plain(file: &[u8], group: &[u8], key: &[u8]) -> bool
     }
 }
 
-// What a set changes in a file without bad lines: 8, 6.
-pub fn find_set(file: &[u8], group: &[u8], key: &[u8]) -> Target
-    requires { ⌜ noneBad (now file) ≡ true ⌝ }
+// Where a set puts an entry that a file without bad lines does not have: 8, 6.
+fn find_place(file: &[u8], group: &[u8], key: &[u8]) -> Target
+    requires { ⌜ (noneBad (now file) ≡ true) × (there (title.findRow (readRows (now file)) (title.Key (now group) (now key))) ≡ false) ⌝ }
     ensures { λ r. ⌜ target.Aims (now (file .entry)) (now (key .entry)) (spec.setEdit (readRows (now (file .entry))) (now (group .entry)) (now (key .entry))) r ⌝ }
 {
     let Slot::At { place, after } = group_end(file, group) else {
         return Target::Refused(Fault::Missing);
     };
     if has_plain(file, group, key) {
-        return match rows::find_key(file, group, key) {
-            Found::Row {
-                line: _,
-                start: _,
-                end,
-                value,
-            } => Target::Value {
-                from: value,
-                to: end,
-            },
-            Found::Nothing => Target::Entry { at: place, after },
+        return Target::Entry { at: place, after };
+    }
+    Target::Refused(Fault::NoPlainKey { line: 0 })
+}
+
+// What a set changes in a file without bad lines: 8, 6. Of a file that has the entry, no row behind it is read.
+pub fn find_set(file: &[u8], group: &[u8], key: &[u8]) -> Target
+    requires { ⌜ noneBad (now file) ≡ true ⌝ }
+    ensures { λ r. ⌜ target.Aims (now (file .entry)) (now (key .entry)) (spec.setEdit (readRows (now (file .entry))) (now (group .entry)) (now (key .entry))) r ⌝ }
+{
+    let Found::Row {
+        line: _,
+        start: _,
+        end,
+        value,
+    } = rows::find_key(file, group, key)
+    else {
+        return find_place(file, group, key);
+    };
+    if has_plain(file, group, key) {
+        return Target::Value {
+            from: value,
+            to: end,
         };
     }
     Target::Refused(Fault::NoPlainKey { line: 0 })

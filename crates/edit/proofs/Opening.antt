@@ -15,7 +15,6 @@ use Rattle.fault.specs.declared.Fault.the-variants.{Damaged}
 use Rattle.fault.specs.Answer.{Answer, given, refused, _>>=_, need, some-or}
 use Rattle.fault.proofs.Answers.{need-given}
 use Rattle.rows.specs.Title.{desktopEntry}
-use Rattle.rows.specs.Find.{noneBad}
 use Rattle.wellformed.specs.Check.{check}
 use Rattle.wellformed.proofs.Accepts.{check-good}
 use Rattle.journal.specs.Journal.{Journal, readJournal}

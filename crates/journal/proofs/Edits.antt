@@ -3,11 +3,10 @@ use mathlib.Core.Path.{_≡_, refl, sym, _∙_}
 use mathlib.Core.Bool.{Bool, true, false}
 use mathlib.Core.Option.{Option, none, some, Option·map}
 use mathlib.Core.List.{List, [], _∷_}
-use Prim.Native.Nat.{ℕ, _+_, _≤_, _<_}
+use Prim.Native.Nat.{ℕ, _+_, _<_}
 use native.Mathlib.Omega.{arith}
 use borrow.Author.Tests.{eqb-true, leb-true, leb-false}
 use lib.ListN.{length, take, drop, length-drop}
-use lib.Seq.{drop-drop}
 use lib.Dec.{eqb, leb}
 use Rattle.base.specs.Choice.{pick, maybe}
 use Rattle.base.specs.Lists.{part}
@@ -15,7 +14,7 @@ use Rattle.base.proofs.Lists.{length-part}
 use Rattle.base.proofs.Scan.{done}
 use Rattle.base.proofs.Tests.{no, by-test}
 use Rattle.record.specs.Number.{numberOf}
-use Rattle.record.specs.Record.{Rec, recordLength, lengthAt, recordAt, whole, cut}
+use Rattle.record.specs.Record.{Rec, recordLength, lengthAt, recordAt, whole}
 use Rattle.record.proofs.Place.{whole-bounds}
 use Rattle.record.specs.Walk.{readAt}
 use Rattle.record.proofs.Each.{each-done, each-damaged, each-step}

@@ -11,11 +11,6 @@ use Rattle.journal.specs.Journal.{Journal, readJournal}
 use Rattle.journal.specs.Lent.{Lent, usedOf, numbersFit, journalIn, opened}
 use Rattle.journal.proofs.Numbers.{Bounds, numbers-bounds, bounds-fit}
 
--- what is there
-pub some-there : {A : Type 0} (o : Option A) → there o ≡ true → (a : A) × (o ≡ some a)
-some-there none h = no (cc)
-some-there (some a) h = (a, refl)
-
 -- what an opened journal says
 pub record Opened (s : Lent) (j : Journal) : Type 0 where
   pub bounds : Bounds s

@@ -17,7 +17,7 @@ use Rattle.fault.specs.Answer.{Answer, given, refused, accepted}
 use Rattle.fault.proofs.Answers.{accepted-given}
 use Rattle.record.specs.declared.Bounds.the-variants as bounds
 use Rattle.record.specs.Number.{numberOf}
-use Rattle.record.specs.Record.{Rec, recordLength, cut, readEach, readRecords}
+use Rattle.record.specs.Record.{Rec, recordLength, cut, readEach}
 use Rattle.record.specs.Walk.{boundsFrom, nthOf, readAt}
 use Rattle.record.proofs.Place.{Stands}
 use Rattle.record.proofs.Cut.{cut-some, cut-some-at}

@@ -3,7 +3,7 @@ use mathlib.Core.Path.{_≡_}
 use Prim.Native.Nat.{ℕ, _+_, _-_, _≤_, _<_}
 use mathlib.Core.Option.{Option, none, some}
 use mathlib.Core.List.{List, _++_}
-use lib.ListN.{length, drop}
+use lib.ListN.{length}
 use Rattle.base.specs.Lists.{part}
 use Rattle.fault.specs.declared.Fault.the-variants.{Damaged, NothingLeft}
 use Rattle.fault.specs.Answer.{Answer, given, refused, _>>=_, some-or, then}

@@ -1,7 +1,6 @@
 -- Whether requests fill a list: those from a place on decide. Assumes nothing.
-use mathlib.Core.Path.{_≡_, refl, sym, _∙_}
+use mathlib.Core.Path.{_≡_, sym, _∙_}
 use mathlib.Core.Bool.{true, false}
-use mathlib.Core.Option.{Option, none, some}
 use mathlib.Core.List.{List}
 use Prim.Native.Nat.{ℕ, _+_, _≤_, _<_}
 use native.Mathlib.Omega.{arith}
@@ -9,11 +8,11 @@ use borrow.Author.Tests.{le-leb, lt-leb}
 use lib.ListN.{length, drop}
 use Rattle.base.specs.Choice.{there}
 use Rattle.base.specs.Lists.{part}
-use Rattle.base.proofs.Tests.{no}
+use Rattle.base.proofs.Tests.{some-there, none-there}
 use Rattle.record.specs.Record.{whole, readRecords}
 use Rattle.record.proofs.Place.{Stands}
 use Rattle.record.proofs.Each.{at-none, at-record, Filling, fill-begin, fill-damaged, fill-next, fill-done}
-use Rattle.requests.specs.Requests.{Asked, readRequest, readRequests}
+use Rattle.requests.specs.Requests.{readRequest, readRequests}
 
 pub judge-long : (s : List ℕ) → 65536 < length s → false ≡ there (readRequests s)
 unfolding readRequests
@@ -32,15 +31,6 @@ pub record Judging (s : List ℕ) (at : ℕ) : Type 0 where
 pub judge-begin : (s : List ℕ) → length s ≤ 65536 → Judging s 0
 judge-begin s h = record { inside = omega arith; short = h; filling = fill-begin readRequest s 0 }
 
--- there is something
-there-some : {A : Type 0} (o : Option A) → true ≡ there o → (a : A) × (o ≡ some a)
-there-some none e = no (cc)
-there-some (some a) e = (a, refl)
-
-there-none : {A : Type 0} (o : Option A) → false ≡ there o → o ≡ none
-there-none none e = refl
-there-none (some a) e = no (cc)
-
 module _ {s : List ℕ} {at : ℕ} (w : Judging s at) where
   pub judge-damaged : at < length s → whole (drop at s) ≡ false → false ≡ there (readRequests s)
   judge-damaged h e = rw (judge-within s (w .short)) (fill-damaged readRequest (w .filling) h (at-none readRequest s at e))
@@ -51,9 +41,9 @@ module _ {s : List ℕ} {at : ℕ} (w : Judging s at) where
   module _ {kind end : ℕ} (r : Stands s at kind end) where
     pub judge-other : false ≡ there (readRequest (record { kind = kind; body = part (at + 6) end s })) → false ≡ there (readRequests s)
     judge-other e =
-        rw (judge-within s (w .short)) (fill-damaged readRequest (w .filling) (omega arith) (at-record readRequest s at r ∙ there-none (readRequest (record { kind = kind; body = part (at + 6) end s })) e))
+        rw (judge-within s (w .short)) (fill-damaged readRequest (w .filling) (omega arith) (at-record readRequest s at r ∙ none-there (readRequest (record { kind = kind; body = part (at + 6) end s })) (sym e)))
 
     pub judge-next : true ≡ there (readRequest (record { kind = kind; body = part (at + 6) end s })) → Judging s end
     judge-next e =
-        let a = there-some (readRequest (record { kind = kind; body = part (at + 6) end s })) e in
+        let a = some-there (readRequest (record { kind = kind; body = part (at + 6) end s })) (sym e) in
         record { inside = r .inside; short = w .short; filling = fill-next readRequest (w .filling) (at-record readRequest s at r ∙ a .1) (r .ends) }

@@ -1,6 +1,5 @@
 -- `batch::make` meets its contract: the fields that are read are those of the request. Assumes nothing.
 use mathlib.Core.Path.{_≡_, sym, _∙_}
-use Prim.Native.Nat.{ℕ}
 use native.Mathlib.Omega.{arith}
 use mathlib.Core.Option.{some}
 use Rattle.base.proofs.Tests.{no}

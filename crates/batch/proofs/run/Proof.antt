@@ -9,7 +9,6 @@ use Rattle.record.proofs.Place.{Stands, front-damaged, front-record}
 use Rattle.journal.specs.Journal.{Person}
 use Rattle.edit.specs.Step.{lent, Ready}
 use Rattle.edit.proofs.Opening.{opened-fits}
-use Rattle.batch.specs.Batch.{Made}
 use Rattle.batch.proofs.Running.{Running, run-begin, run-damaged, run-done, run-stopped, run-next}
 use Rattle.batch.proofs.run.Statement.{statement}
 use Rattle.batch.proofs.run.Tie as tie

@@ -1,43 +1,35 @@
 -- `find_set` meets its contract: what was found says which edit the definition has. Assumes nothing.
-use mathlib.Core.Path.{sym, _∙_}
+use mathlib.Core.Path.{sym, ap, _∙_}
 use borrow.Author.Needs.{needs}
-use Rattle.change.proofs.Aiming.{set-no-group, set-no-plain, set-value, set-entry}
+use Rattle.base.specs.Choice.{there}
+use Rattle.rows.specs.Rows.{readRows}
+use Rattle.rows.specs.Title.{Key, findRow}
+use Rattle.rows.proofs.Told.{told-nothing}
+use Rattle.change.proofs.Aiming.{value-no-plain, set-value}
 use Rattle.change.proofs.find_set.Statement.{statement}
 use Rattle.change.proofs.find_set.Tie as tie
 
-returns : tie.Need-returns
-returns c =
-    let g = c .before .before in
-    let s = g .before .before .before .before .args in
-    set-no-group (s .file .now) (s .group .now) (s .key .now) (sym (c .enum-told .given .1) ∙ g .group-end .ensures)
+find-place-requires : tie.Need-find-place-requires
+find-place-requires c κs =
+    let f = c .before .before in
+    let w = f .before .before .before .before in
+    (w .pre, ap there (told-nothing (findRow (readRows (w .args .file .now)) (Key (w .args .group .now) (w .args .key .now))) (sym (sym (c .enum-told .given .1) ∙ f .find-key .ensures))))
 
 returns-2 : tie.Need-returns-2
 returns-2 c =
-    let f = c .before .before .before in
-    let p = f .before .before in
+    let p = c .before in
     let e = p .before .before in
-    let g = e .before .before in
-    let s = g .before .before .before .before .args in
-    set-value (s .file .now) (s .group .now) (s .key .now) (sym (e .place .given .1) ∙ g .group-end .ensures) (sym (f .before .if1 .taken) ∙ p .has-plain .ensures)
-    (sym (c .before .end .given .1) ∙ f .find-key .ensures)
+    let f = e .before .before in
+    let s = f .before .before .before .before .args in
+    set-value (s .file .now) (s .group .now) (s .key .now) (sym (e .end .given .1) ∙ f .find-key .ensures) (sym (c .if1 .taken) ∙ p .has-plain .ensures)
 
 returns-3 : tie.Need-returns-3
 returns-3 c =
-    let f = c .before .before in
-    let p = f .before .before in
-    let e = p .before .before in
-    let g = e .before .before in
-    let s = g .before .before .before .before .args in
-    set-entry (s .file .now) (s .group .now) (s .key .now) (sym (e .place .given .1) ∙ g .group-end .ensures) (sym (f .before .if1 .taken) ∙ p .has-plain .ensures)
-    (sym (c .enum-told2 .given .1) ∙ f .find-key .ensures)
-
-returns-4 : tie.Need-returns-4
-returns-4 c =
     let p = c .before in
     let e = p .before .before in
-    let g = e .before .before in
-    let s = g .before .before .before .before .args in
-    set-no-plain (s .file .now) (s .group .now) (s .key .now) (sym (e .place .given .1) ∙ g .group-end .ensures) (sym (c .if1 .left) ∙ p .has-plain .ensures)
+    let f = e .before .before in
+    let s = f .before .before .before .before .args in
+    value-no-plain (s .file .now) (s .group .now) (s .key .now) (sym (e .end .given .1) ∙ f .find-key .ensures) (sym (c .if1 .left) ∙ p .has-plain .ensures)
 
 pub find-set-spec : {M : Type 1} → statement M
 find-set-spec =
@@ -46,11 +38,8 @@ find-set-spec =
     (λ c κs. search needs)
     (λ c. search needs)
     (λ c. search needs)
-    returns
-    (λ c κs. search needs)
-    (λ c κs. search needs)
+    find-place-requires
     (λ c. search needs)
-    (λ c. search needs)
+    (λ c κs. search needs)
     returns-2
-    returns-3
-    returns-4)
+    returns-3)

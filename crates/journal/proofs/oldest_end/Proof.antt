@@ -2,7 +2,7 @@
 use native.Mathlib.Omega.{arith}
 use borrow.Author.Needs.{needs}
 use mathlib.Core.Path.{_∙_, sym}
-use Rattle.journal.proofs.Opened.{some-there}
+use Rattle.base.proofs.Tests.{some-there}
 use Rattle.journal.proofs.Joined.{of, journal-says}
 use Rattle.journal.proofs.Forgotten.{oldest-none}
 use Rattle.journal.proofs.Ends.{oldest-missing, oldest-beyond, oldest-ends}

@@ -2,8 +2,8 @@
 use mathlib.Core.Path.{_∙_, sym, ap}
 use native.Mathlib.Omega.{arith}
 use borrow.Author.Needs.{needs}
+use Rattle.base.proofs.Tests.{some-there}
 use Rattle.fault.specs.Answer.{given}
-use Rattle.journal.proofs.Opened.{some-there}
 use Rattle.journal.proofs.Persons.{person-found, person-missing, kind-inside, kind-there, person-inside, person-four, person-other}
 use Rattle.journal.proofs.Joined.{of}
 use Rattle.journal.proofs.person_in.Statement.{statement}
