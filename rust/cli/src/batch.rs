@@ -3,7 +3,7 @@
 use std::ffi::OsStr;
 use std::process::ExitCode;
 
-use kveldrim::{requests_of, Document, Kind, Person, Refusal, Request};
+use kveldrim::{requests_of, Document, Kind, Person, Refusal, Request, LIST_BOUND};
 use serde_json::json;
 
 use crate::arguments::Batch;
@@ -14,9 +14,6 @@ use crate::report::{command, shown, Trouble};
 use crate::store::Store;
 use crate::table::{self, Row};
 use crate::{json, streams};
-
-/// The most bytes that the list of a batch has.
-const LIST_BOUND: usize = 65_536;
 
 pub fn batch(asked: &Batch) -> ExitCode {
     match made(asked) {

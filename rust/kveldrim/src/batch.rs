@@ -3,6 +3,9 @@
 use crate::records::{four, put};
 use crate::Refusal;
 
+/// The most bytes that a list of requests may have.
+pub const LIST_BOUND: usize = 65_536;
+
 /// An edit that is asked for. The key is asked with its postfix (`Name` or `Name[de]`).
 #[derive(Debug, Clone, Copy, PartialEq, Eq)]
 pub enum Request<'a> {
@@ -26,7 +29,7 @@ pub struct Batch {
 }
 
 /// The list that [`crate::Buffers::batch`] takes: a record of the kind 5 for each set and of the kind 6 for each remove, with
-/// group, key and text each behind its length (4 bytes, little-endian). A list over 65,536 bytes is refused (14).
+/// group, key and text each behind its length (4 bytes, little-endian). One over [`LIST_BOUND`] is refused (14).
 pub fn requests_of(requests: &[Request<'_>]) -> Vec<u8> {
     let mut list = Vec::new();
     for request in requests {

@@ -21,7 +21,7 @@ mod refusal;
 
 use std::ops::Range;
 
-pub use batch::{requests_of, Batch, Request};
+pub use batch::{requests_of, Batch, Request, LIST_BOUND};
 pub use edit::{Buffers, Document, Edit, Edits, Numbers, Person, JOURNAL_BOUND};
 pub use expand::{expand, expand_args, list_of, runs, Arguments};
 pub use refusal::{Kind, Place, Refusal};
