@@ -3,7 +3,7 @@ use mathlib.Core.Path.{_≡_, refl, sym, ap, ap₂, _∙_}
 use Prim.Native.Nat.{ℕ, zero, suc}
 use native.Mathlib.Omega.{arith}
 use mathlib.Core.Bool.{Bool, true, false, _&&_, _||_, false≢true}
-use mathlib.Core.Option.{Option, none, some}
+use mathlib.Core.Option.{Option, none, some, Option·map}
 use mathlib.Core.List.{List, [], _∷_}
 use lib.Dec.{eqb, eqb·zero-suc, eqb·suc-zero, eqb·suc-suc}
 use borrow.Author.Tests.{eq-eqb, eqb-true}
@@ -27,6 +27,15 @@ some-there (some a) h = (a, refl)
 pub none-there : {A : Type 0} (o : Option A) → there o ≡ false → o ≡ none
 none-there none h = refl
 none-there (some a) h = no (cc)
+
+-- what was made of something that there is, and whether there is something
+pub mapped : {A B : Type 0} (f : A → B) (o : Option A) {b : B} → Option·map f o ≡ some b → (a : A) × (o ≡ some a) × (f a ≡ b)
+mapped f none h = no (cc)
+mapped f (some a) h = (a, refl, cc)
+
+pub there-map : {A B : Type 0} (f : A → B) (o : Option A) → there (Option·map f o) ≡ there o
+there-map f none = refl
+there-map f (some a) = refl
 
 pub and-both : (a b : Bool) → (a && b) ≡ true → (a ≡ true) × (b ≡ true)
 and-both true b e = (refl, e)

@@ -3,13 +3,13 @@ use mathlib.Core.Path.{_≡_, refl, sym, ap, _∙_}
 use Prim.Native.Nat.{ℕ, suc, _+_, _≤_, _<_}
 use native.Mathlib.Omega.{arith}
 use mathlib.Core.Bool.{Bool, true, false}
-use mathlib.Core.Option.{Option, none, some, Option·map}
+use mathlib.Core.Option.{Option, none, some}
 use mathlib.Core.List.{List, [], _∷_, map}
 use lib.ListN.{length, drop}
 use lib.Dec.{leb}
 use Rattle.base.specs.Choice.{pick, there}
 use Rattle.base.specs.Lists.{part}
-use Rattle.base.proofs.Tests.{no, some-there, none-there}
+use Rattle.base.proofs.Tests.{no, some-there, none-there, mapped}
 use Rattle.fault.specs.declared.Fault.{Fault}
 use Rattle.fault.specs.declared.Fault.the-variants.{Damaged}
 use Rattle.fault.specs.Answer.{Answer, given, refused, _>>=_, some-or}
@@ -81,10 +81,6 @@ run-begin s author list e h =
 
 -- ---- further
 
-cons-is : (a : Asked) (o : Option (List Asked)) {xs : List Asked} → Option·map (λ ys. a ∷ ys) o ≡ some xs → (ys : List Asked) × (o ≡ some ys) × (xs ≡ a ∷ ys)
-cons-is a none e = no (cc)
-cons-is a (some ys) e = (ys, refl, sym (cc))
-
 module _ {s : State} {author : Author} {list : List ℕ} {at n : ℕ} {t : State} (w : Running s author list at n t) where
   pub run-damaged {ℓ} : {X : Type ℓ} → at < length list → whole (drop at list) ≡ false → X
   run-damaged h e = let z = each-damaged readRequest list at h (at-none readRequest list at e) in let r = w .reads in no (cc)
@@ -116,8 +112,8 @@ module _ {s : State} {author : Author} {list : List ℕ} {at n : ℕ} {t : State
             no (cc)
         go (some a) e =
             let z = each-step readRequest list at (at-record readRequest list at r ∙ e) in
-            let x = cons-is a (readRecords readRequest (drop end list)) (rw (← r .ends) at (sym z ∙ w .reads)) in
-            record { asked = a; reads-here = e; others = x .0; left-is = x .2; reads-others = x .1 }
+            let x = mapped (λ xs. a ∷ xs) (readRecords readRequest (drop end list)) (rw (← r .ends) at (sym z ∙ w .reads)) in
+            record { asked = a; reads-here = e; others = x .0; left-is = sym (x .2); reads-others = x .1 }
 
     module _ {e : Edited} {file journal : List ℕ} (m : MadeOf kind (part (at + 6) end list) author (t .file) (t .size) (t .journal) (t .standing) e file journal) where
       -- it is made as the single call would make it

@@ -192,8 +192,8 @@ fn find_place(file: &[u8], group: &[u8], key: &[u8]) -> Target
     Target::Refused(Fault::NoPlainKey { line: 0 })
 }
 
-// What a set changes in a file without bad lines: 8, 6. Of a file that has the entry, no row behind it is read.
-pub fn find_set(file: &[u8], group: &[u8], key: &[u8]) -> Target
+// What a set changes in a file without bad lines: 8, 6. Where the file has the entry of a plain key, no row behind it is read.
+fn find_set(file: &[u8], group: &[u8], key: &[u8]) -> Target
     requires { ⌜ noneBad (now file) ≡ true ⌝ }
     ensures { λ r. ⌜ target.Aims (now (file .entry)) (now (key .entry)) (spec.setEdit (readRows (now (file .entry))) (now (group .entry)) (now (key .entry))) r ⌝ }
 {
@@ -216,7 +216,7 @@ pub fn find_set(file: &[u8], group: &[u8], key: &[u8]) -> Target
 }
 
 // What a remove changes in a file without bad lines: 8, 17.
-pub fn find_remove(file: &[u8], group: &[u8], key: &[u8]) -> Target
+fn find_remove(file: &[u8], group: &[u8], key: &[u8]) -> Target
     requires { ⌜ (noneBad (now file) ≡ true) × ((groupForm (now group) && keyForm (now key)) ≡ true) ⌝ }
     ensures { λ r. ⌜ target.Aims (now (file .entry)) (now (key .entry)) (λ _. spec.removeEdit (readRows (now (file .entry))) (now (group .entry)) (now (key .entry))) r ⌝ }
 {

@@ -12,7 +12,7 @@ use Rattle.base.specs.Choice.{pick, maybe}
 use Rattle.base.specs.Lists.{part}
 use Rattle.base.proofs.Lists.{length-part}
 use Rattle.base.proofs.Scan.{done}
-use Rattle.base.proofs.Tests.{no, by-test}
+use Rattle.base.proofs.Tests.{no, by-test, mapped}
 use Rattle.record.specs.Number.{numberOf}
 use Rattle.record.specs.Record.{Rec, recordLength, lengthAt, recordAt, whole}
 use Rattle.record.proofs.Place.{whole-bounds}
@@ -26,11 +26,6 @@ use Rattle.journal.specs.Walk.{editAt, edits, Follows}
 picked : {A : Type 0} (t : Bool) {x y : A} → pick t (some x) none ≡ some y → (t ≡ true) × (x ≡ y)
 picked true h = (refl, cc)
 picked false h = no (cc)
-
--- what was made of something that there is
-pub mapped : {A B : Type 0} (f : A → B) (o : Option A) {b : B} → Option·map f o ≡ some b → (a : A) × (o ≡ some a) × (f a ≡ b)
-mapped f none h = no (cc)
-mapped f (some a) h = (a, refl, cc)
 
 -- an edit is as long as its record
 in-length : (s : List ℕ) {e : Edit} → editIn s ≡ some e → 12 + length (e .old) + length (e .new) ≡ length s

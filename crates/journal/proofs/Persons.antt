@@ -11,7 +11,7 @@ use lib.Seq.{drop-drop}
 use lib.Dec.{eqb, leb}
 use Rattle.base.specs.Choice.{there}
 use Rattle.base.specs.Lists.{part}
-use Rattle.base.proofs.Tests.{no, by-test}
+use Rattle.base.proofs.Tests.{no, by-test, mapped}
 use Rattle.fault.specs.declared.Fault.the-variants.{Damaged, NothingLeft}
 use Rattle.fault.specs.Answer.{Answer, given, refused, accepted}
 use Rattle.fault.proofs.Answers.{accepted-given}
@@ -26,7 +26,6 @@ use Rattle.journal.specs.Journal.{readEdit, NoPerson, Person, Authored, 
 use Rattle.journal.specs.Lent.{Lent, usedOf, opened, personIn, person}
 use Rattle.journal.specs.Walk.{editAt, edits}
 use Rattle.journal.proofs.Read.{edit-other, edit-bare, edit-person, edit-stub}
-use Rattle.journal.proofs.Edits.{mapped}
 use Rattle.journal.proofs.Joined.{cons, none-read, of, journal-says}
 use Rattle.journal.proofs.Opened.{opened-says, opened-refused}
 

@@ -9,15 +9,11 @@ use lib.Seq.{drop-drop}
 use Rattle.base.specs.Choice.{maybe, there}
 use Rattle.base.specs.Lists.{part}
 use Rattle.base.proofs.Scan.{done}
-use Rattle.base.proofs.Tests.{no, by-test}
+use Rattle.base.proofs.Tests.{no, by-test, there-map}
 use Rattle.record.specs.Record.{Rec, lengthAt, recordAt, whole, cut, readEach, readRecords}
 use Rattle.record.specs.Walk.{readAt}
 use Rattle.record.proofs.Place.{Stands}
 use Rattle.record.proofs.Cut.{cut-none, cut-step, cut-damaged-at, body-at}
-
-there-map : {A B : Type 0} (f : A → B) (o : Option A) → there (Option·map f o) ≡ there o
-there-map f none = refl
-there-map f (some a) = refl
 
 module _ {A : Type 0} (read : Rec → Option A) where
   -- a record before others

@@ -1,5 +1,5 @@
 -- The n-th body of a list of records: how a loop finds it, and that it is the n-th record's. Assumes nothing.
-use mathlib.Core.Path.{_≡_, refl, _∙_}
+use mathlib.Core.Path.{_≡_, refl, sym, _∙_}
 use mathlib.Core.Bool.{true, false}
 use mathlib.Core.Option.{Option, none, some, Option·map}
 use mathlib.Core.List.{List, [], _∷_}
@@ -10,7 +10,7 @@ use Rattle.base.specs.Choice.{maybe, there}
 use Rattle.base.specs.Lists.{part}
 use Rattle.base.proofs.Lists.{length-part}
 use Rattle.base.proofs.Scan.{done}
-use Rattle.base.proofs.Tests.{no}
+use Rattle.base.proofs.Tests.{no, there-map}
 use Rattle.record.specs.declared.Bounds.{Bounds}
 use Rattle.record.specs.declared.Bounds.the-variants as bounds
 use Rattle.record.specs.Record.{Rec, recordLength, whole, cut, readList}
@@ -34,10 +34,6 @@ pub record Seeking (s : List ℕ) (n at left : ℕ) : Type 0 where
 pub seek-begin : {s : List ℕ} (n : ℕ) → there (cut s) ≡ true → Seeking s n 0 n
 unfolding nthOf
 seek-begin n h = record { inside = omega arith; sound = h; same = refl }
-
-there-next : (r : Rec) (o : Option (List Rec)) → there (Option·map (λ rs. r ∷ rs) o) ≡ true → there o ≡ true
-there-next r none e = e
-there-next r (some rs) e = refl
 
 module _ (r : Rec) (at : ℕ) where
   sought-next : (o : Option (List Rec)) {n m : ℕ} → n ≡ suc m → sought (Option·map (λ rs. r ∷ rs) o) n at ≡ sought o m (at + recordLength (r .body))
@@ -66,7 +62,7 @@ module _ {s : List ℕ} {n at left : ℕ} (w : Seeking s n at left) where
     ends = omega (arith, length-part (at + 6) end s (r .inside), r .head-inside)
 
     others-sound : there (cut (drop end s)) ≡ true
-    others-sound = there-next found (cut (drop end s)) (rw (cut-at r) at (w .sound))
+    others-sound = sym (there-map (λ rs. found ∷ rs) (cut (drop end s))) ∙ rw (cut-at r) at (w .sound)
 
     pub seek-next : (left ≡ 0 → ⊥) → Seeking s n end (left - 1)
     seek-next z =

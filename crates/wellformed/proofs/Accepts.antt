@@ -17,7 +17,7 @@ use Rattle.line.specs.declared.Line.{Line}
 use Rattle.line.specs.declared.Line.the-variants.{Blank, Comment, Header, Entry, Bad}
 use Rattle.line.specs.Line.{isBad}
 use Rattle.rows.specs.Rows.{Row, lineOf, readRows}
-use Rattle.rows.specs.Title.{desktopEntry, Title, Nameless, Group, Key, titleOf, title, sameTitle, seeing, titles}
+use Rattle.rows.specs.Title.{desktopEntry, Title, Group, Key, titleOf, title, sameTitle, seeing, titles}
 use Rattle.base.proofs.Search.{there-first}
 use Rattle.rows.proofs.Titles.{sameTitle-sym}
 use Rattle.wellformed.specs.Check.{titleFault, rowFault, earliest, isGroup, noPlain, titledAs, plainAll, checkedRows, checkAs, check}
