@@ -173,7 +173,8 @@
  *
  * A group's name is one or more of the bytes 0x20 to 0x7E without [ and ]. A key is one or more of A-Z a-z 0-9 and -.
  * A postfix is [LOCALE], right after the key. A locale is lang, then perhaps _COUNTRY, .ENCODING and @MODIFIER in this
- * order, each part one or more of A-Z a-z 0-9 and -. Names are compared byte by byte.
+ * order, each part one or more of A-Z a-z 0-9 and -. Names are compared byte by byte; only the choice by a locale
+ * (kveldrim_choose, and Name and Icon in kveldrim_expand) leaves .ENCODING out.
  */
 #ifndef KVELDRIM_H
 #define KVELDRIM_H
@@ -264,9 +265,10 @@ uint32_t kveldrim_lookup(const uint8_t *file, size_t file_len,
                          uint64_t *place, uint64_t *byte, uint64_t *from, uint64_t *to);
 
 /*
- * Finds the raw value that suits a locale best. The locale loses its .ENCODING; then the first that is there of
- * lang_COUNTRY@MODIFIER, lang_COUNTRY, lang@MODIFIER, lang and the plain key is taken, as far as the locale has these
- * parts. The empty locale, C and POSIX mean the plain key.
+ * Finds the raw value that suits a locale best. The locale and the file's postfixes lose their .ENCODING; then the first
+ * that is there of lang_COUNTRY@MODIFIER, lang_COUNTRY, lang@MODIFIER, lang and the plain key is taken, as far as the locale
+ * has these parts. Of postfixes that become equal the earlier line is taken, also where a later one has the locale's own
+ * encoding. The empty locale, C and POSIX mean the plain key.
  *
  *     file, file_len       the whole file
  *     group, group_len     the group's name, without brackets

@@ -1,17 +1,16 @@
 -- The new bytes: how many they are, and that they are written one after another. Assumes nothing.
-use mathlib.Core.Path.{_≡_, sym, ap}
-use Prim.Native.Nat.{ℕ, _+_}
+use mathlib.Core.Path.{_≡_, refl, sym, ap, _∙_}
+use Prim.Native.Nat.{ℕ, _+_, _≤_}
 use native.Mathlib.Nat.{add-zero}
 use native.Mathlib.Omega.{arith}
 use mathlib.Core.Bool.{Bool, true, false}
-use mathlib.Core.List.{List, []}
-use lib.ListN.{length, length-append, take-append-drop}
+use mathlib.Core.List.{List, [], _++_}
+use lib.ListN.{length, take, drop, length-append, take-append-drop}
 use Rattle.base.specs.Over.{atFront}
 use Rattle.base.proofs.Tail.{lent, back}
-use Rattle.base.proofs.Over.{over-tail}
+use Rattle.base.proofs.Over.{copied, over-tail, over-then}
 use Rattle.text.specs.Escape.{rawText}
-use Rattle.choice.specs.Step.{Written}
-use Rattle.change.specs.Target.{entryBytes, newBytes}
+use Rattle.change.specs.Target.{entryBytes, newBytes, Written}
 use Rattle.change.specs.declared.Target.the-variants.{Entry}
 
 -- ---- how many
@@ -33,3 +32,15 @@ write-none s at = record { ends = omega arith; is = rw (add-zero at) (sym (take-
 -- x at the front of a tail that was lent
 pub write-lent : (s : List ℕ) (at : ℕ) (x : List ℕ) {n : ℕ} {y : List ℕ} → n ≡ length x → y ≡ atFront (lent at s) x → Written s at x (at + n) (back at s y)
 write-lent s at x e f = record { ends = ap (λ (m : ℕ). at + m) e; is = over-tail s at x f }
+
+-- x copied to the front of a tail that was lent
+pub write-tail : (s x : List ℕ) (at : ℕ) {y : List ℕ} → y ≡ take (length x) x ++ drop (length x) (lent at s) → Written s at x (at + length x) (back at s y)
+write-tail s x at e = write-lent s at x refl (copied (lent at s) x e)
+
+-- y right behind x
+pub write-then : {s x t y u : List ℕ} {at n m : ℕ} → Written s at x n t → Written t n y m u → n ≤ length s → Written s at (x ++ y) m u
+write-then {s} {x} {t} {y} {u} {at} {n} {m} w v h =
+    record {
+      ends = v .ends ∙ rw (w .ends, length-append x y) (omega arith);
+      is = v .is ∙ rw (w .is) (over-then s at x y (w .ends) (omega (arith, w .ends)));
+    }

@@ -8,6 +8,7 @@ use lib.ListN.{length, take}
 use lib.Dec.{eqb}
 use Rattle.base.specs.Choice.{pick, maybe}
 use Rattle.base.specs.Lists.{ascii, same, part}
+use Rattle.base.specs.Over.{over}
 use Rattle.fault.specs.Answer.{Answer, given, refused}
 use Rattle.text.specs.Escape.{rawText}
 use Rattle.line.specs.declared.Line.{Line}
@@ -77,3 +78,8 @@ postfixIn key l line.Comment = false
 postfixIn key l (line.Header end) = false
 postfixIn key l (line.Entry k name value) = same key (take k l) && not (eqb k name)
 postfixIn key l (line.Bad n) = false
+
+-- a buffer s became t: x stands in it from a place up to n
+pub record Written (s : List ℕ) (at : ℕ) (x : List ℕ) (n : ℕ) (t : List ℕ) : Type 0 where
+  pub ends : n ≡ at + length x
+  pub is : t ≡ over s at x

@@ -20,7 +20,6 @@ ghost use Rattle.rows.specs.Rows.{groupAfter, readRows};
 ghost use Rattle.rows.specs.Title as title;
 ghost use Rattle.rows.specs.Find.{noneBad};
 ghost use Rattle.wellformed.specs.Check.{plainOf};
-ghost use Rattle.choice.specs.Step.{Written};
 ghost use Rattle.change.specs.Change as spec;
 ghost use Rattle.change.specs.Target as target;
 ghost use Rattle.change.specs.declared.Slot.the-variants as slot;
@@ -300,7 +299,7 @@ pub fn new_length(key: &[u8], text: &[u8], t: Target) -> usize
 // Bytes through the part of an output that starts at a place; the answer is where they end.
 fn put(out: &mut [u8], at: usize, x: &[u8]) -> usize
     requires { ⌜ at + length (now x) ≤ length (now out) ⌝ }
-    ensures { λ r. ⌜ Written (now (out .entry)) at (now (x .entry)) r (now (out .exit)) ⌝ }
+    ensures { λ r. ⌜ target.Written (now (out .entry)) at (now (x .entry)) r (now (out .exit)) ⌝ }
 {
     bytes::copy(x, &mut out[at..]);
     at + x.len()
@@ -309,7 +308,7 @@ fn put(out: &mut [u8], at: usize, x: &[u8]) -> usize
 // The same of the raw value of a text.
 fn put_raw(out: &mut [u8], at: usize, text: &[u8]) -> usize
     requires { ⌜ at + length (rawText (now text)) ≤ length (now out) ⌝ }
-    ensures { λ r. ⌜ Written (now (out .entry)) at (rawText (now (text .entry))) r (now (out .exit)) ⌝ }
+    ensures { λ r. ⌜ target.Written (now (out .entry)) at (rawText (now (text .entry))) r (now (out .exit)) ⌝ }
 {
     let n = text::escape::write_raw(text, &mut out[at..]);
     at + n
@@ -318,7 +317,7 @@ fn put_raw(out: &mut [u8], at: usize, text: &[u8]) -> usize
 // The same of an entry.
 fn put_entry(out: &mut [u8], at: usize, key: &[u8], text: &[u8]) -> usize
     requires { ⌜ at + length (target.entryBytes (now key) (now text)) ≤ length (now out) ⌝ }
-    ensures { λ r. ⌜ Written (now (out .entry)) at (target.entryBytes (now (key .entry)) (now (text .entry))) r (now (out .exit)) ⌝ }
+    ensures { λ r. ⌜ target.Written (now (out .entry)) at (target.entryBytes (now (key .entry)) (now (text .entry))) r (now (out .exit)) ⌝ }
 {
     let sign = put(out, at, key);
     let from = put(out, sign, b"=");
@@ -328,7 +327,7 @@ fn put_entry(out: &mut [u8], at: usize, key: &[u8], text: &[u8]) -> usize
 // The same of an entry with its LF, after it or before it.
 fn put_line(out: &mut [u8], at: usize, key: &[u8], text: &[u8], after: bool) -> usize
     requires { ⌜ at + (length (target.entryBytes (now key) (now text)) + 1) ≤ length (now out) ⌝ }
-    ensures { λ r. ⌜ Written (now (out .entry)) at (target.withLF after (target.entryBytes (now (key .entry)) (now (text .entry)))) r (now (out .exit)) ⌝ }
+    ensures { λ r. ⌜ target.Written (now (out .entry)) at (target.withLF after (target.entryBytes (now (key .entry)) (now (text .entry)))) r (now (out .exit)) ⌝ }
 {
     if after {
         let end = put_entry(out, at, key, text);
@@ -341,7 +340,7 @@ fn put_line(out: &mut [u8], at: usize, key: &[u8], text: &[u8], after: bool) -> 
 // The new bytes through the part of an output that starts at a place; the answer is where they end.
 pub fn put_new(out: &mut [u8], at: usize, key: &[u8], text: &[u8], t: Target) -> usize
     requires { ⌜ at + length (target.newBytes (now key) (now text) t) ≤ length (now out) ⌝ }
-    ensures { λ r. ⌜ Written (now (out .entry)) at (target.newBytes (now (key .entry)) (now (text .entry)) t) r (now (out .exit)) ⌝ }
+    ensures { λ r. ⌜ target.Written (now (out .entry)) at (target.newBytes (now (key .entry)) (now (text .entry)) t) r (now (out .exit)) ⌝ }
 {
     match t {
         Target::Value { from: _, to: _ } => put_raw(out, at, text),

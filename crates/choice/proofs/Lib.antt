@@ -1,4 +1,8 @@
+pub mod Cut
+pub mod Stripped
 pub mod Choices
 pub mod Chosen
-pub mod Writing
-pub mod Long
+pub mod Postfixes
+pub mod Ranks
+pub mod Plain
+pub mod Best

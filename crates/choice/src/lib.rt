@@ -1,55 +1,23 @@
-// Choice of language: the row of a key that a locale takes.
+// Choice of language: the row of a key that a locale takes, in one pass over the file.
+use line::Named;
+use line::Parts;
 use rows::Found;
 ghost use mathlib.Core.Path.{_≡_};
 ghost use mathlib.Core.Bool.{true};
-ghost use mathlib.Core.List.{[], _∷_, _++_, map};
-ghost use Prim.Native.Nat.{_+_, _≤_};
-ghost use lib.ListN.{length};
-ghost use lib.Dec.{leb};
+ghost use mathlib.Core.List.{[], _∷_};
+ghost use Rattle.base.specs.Lists as lists;
+ghost use Rattle.text.specs.Class.{keyByte};
+ghost use Rattle.line.specs.Form.{plainForm, localeForm};
+ghost use Rattle.line.specs.Locale.{parts};
+ghost use Rattle.line.specs.Name.{readName};
 ghost use Rattle.rows.specs.Rows.{readRows};
-ghost use Rattle.rows.specs.Title.{Key, findRow};
 ghost use Rattle.rows.specs.Find.{noneBad, toldOf};
 ghost use Rattle.choice.specs.Locale as spec;
-ghost use Rattle.choice.specs.Step.{Written, plainName, candidatesWith, candidatesOf};
+ghost use Rattle.choice.specs.Step as step;
 
-// Whether three lengths together are at most this.
-fn fits(most: usize, a: usize, b: usize, c: usize) -> bool
-    ensures { λ r. ⌜ r ≡ leb (a + b + c) most ⌝ }
-{
-    if most < a {
-        return false;
-    }
-    if most - a < b {
-        return false;
-    }
-    if most - a - b < c {
-        return false;
-    }
-    true
-}
-
-// Bytes written at a place; the answer is where they end.
-fn put(out: &mut [u8], at: usize, x: &[u8]) -> usize
-    requires { ⌜ at + length (now x) ≤ length (now out) ⌝ }
-    ensures { λ r. ⌜ Written (now (out .entry)) at (now (x .entry)) r (now (out .exit)) ⌝ }
-{
-    bytes::copy(x, &mut out[at..]);
-    at + x.len()
-}
-
-// The parts of a locale written at a place; the answer is where they end.
-fn put_locale(out: &mut [u8], at: usize, lang: &[u8], country: &[u8], modifier: &[u8]) -> usize
-    requires { ⌜ at + (length (now lang) + length (now country) + length (now modifier)) ≤ length (now out) ⌝ }
-    ensures { λ r. ⌜ Written (now (out .entry)) at (now (lang .entry) ++ now (country .entry) ++ now (modifier .entry)) r (now (out .exit)) ⌝ }
-{
-    let a = put(out, at, lang);
-    let b = put(out, a, country);
-    put(out, b, modifier)
-}
-
-// Whether a locale without encoding means the plain key.
-fn is_plain_name(s: &[u8]) -> bool
-    ensures { λ r. ⌜ r ≡ plainName (now (s .entry)) ⌝ }
+// Whether a locale without country, encoding and modifier means the plain key.
+fn is_plain_lang(s: &[u8]) -> bool
+    ensures { λ r. ⌜ r ≡ lists.any (lists.same (now (s .entry))) spec.plainLocales ⌝ }
 {
     if rows::same(s, b"") {
         return true;
@@ -61,152 +29,126 @@ fn is_plain_name(s: &[u8]) -> bool
 }
 
 // Whether a locale of these parts means the plain key.
-fn is_plain(lang: &[u8], country: &[u8], modifier: &[u8]) -> bool
-    ensures { λ r. ⌜ r ≡ plainName (now (lang .entry) ++ now (country .entry) ++ now (modifier .entry)) ⌝ }
+fn is_plain(locale: &[u8], p: Parts) -> bool
+    requires { ⌜ (localeForm (now locale) ≡ true) × (p ≡ parts (now locale)) ⌝ }
+    ensures { λ r. ⌜ r ≡ spec.plainLocale (now (locale .entry)) ⌝ }
 {
-    if fits(5, lang.len(), country.len(), modifier.len()) {
-        let mut buf = [0u8; 5];
-        let n = put_locale(&mut buf, 0, lang, country, modifier);
-        return is_plain_name(&buf[..n]);
+    if p.country == 0 {
+        if p.modifier == 0 {
+            let lang = p.lang;
+            return is_plain_lang(&locale[..lang]);
+        }
     }
     false
 }
 
-// A key whose postfix is a locale of these parts, written at the start; the answer is its length.
-fn put_postfixed(out: &mut [u8], key: &[u8], lang: &[u8], country: &[u8], modifier: &[u8]) -> usize
-    requires { ⌜ length (now key) + (length (now lang) + length (now country) + length (now modifier)) + 2 ≤ length (now out) ⌝ }
-    ensures { λ r. ⌜ Written (now (out .entry)) 0 (spec.postfixed (now (key .entry)) (now (lang .entry) ++ now (country .entry) ++ now (modifier .entry))) r (now (out .exit)) ⌝ }
+// How a part of a postfix serves where one is asked for: 0 it is the same, 1 there is none, 4 it is another.
+fn rank_part(asked: &[u8], has: &[u8]) -> usize
+    ensures { λ r. ⌜ r ≡ step.rankPart (now (asked .entry)) (now (has .entry)) ⌝ }
 {
-    let a = put(out, 0, key);
-    let b = put(out, a, b"[");
-    let c = put_locale(out, b, lang, country, modifier);
-    put(out, c, b"]")
+    if rows::same(asked, has) {
+        return 0;
+    }
+    if has.len() == 0 {
+        return 1;
+    }
+    4
 }
 
-// The row of a key whose postfix is a locale of these parts.
-fn find_postfixed(
-    file: &[u8],
-    group: &[u8],
-    key: &[u8],
-    lang: &[u8],
-    country: &[u8],
-    modifier: &[u8],
-) -> Found
-    requires { ⌜ (noneBad (now file) ≡ true) × (length (now file) ≤ 32768) ⌝ }
-    ensures { λ r. ⌜ r ≡ toldOf (findRow (readRows (now (file .entry)))
-        (Key (now (group .entry)) (spec.postfixed (now (key .entry)) (now (lang .entry) ++ now (country .entry) ++ now (modifier .entry))))) ⌝ }
+// The rank of a postfix behind its `[` among those that a locale of these parts asks for, its encoding apart; 5: it is none of them.
+fn rank_postfix(s: &[u8], locale: &[u8], p: Parts) -> usize
+    requires { ⌜ step.Closed (now s) × (localeForm (now locale) ≡ true) × (p ≡ parts (now locale)) ⌝ }
+    ensures { λ r. ⌜ r ≡ step.rankIn (step.allKeys [] (now (locale .entry))) (91 ∷ spec.stripped (now (s .entry))) ⌝ }
 {
-    if 32766 < key.len() {
-        return Found::Nothing;
+    let q = line::read_parts(s);
+    let lang = q.lang;
+    let asked = p.lang;
+    if rows::same(&locale[..asked], &s[..lang]) {
+        let a = asked + p.country;
+        let b = lang + q.country;
+        let c = rank_part(&locale[asked..a], &s[lang..b]);
+        let d = a + p.encoding;
+        let e = b + q.encoding;
+        let z = s.len() - 1;
+        let m = rank_part(&locale[d..], &s[e..z]);
+        let r = 2 * c + m;
+        if r < 4 {
+            return r;
+        }
+        return 5;
     }
-    if fits(32766 - key.len(), lang.len(), country.len(), modifier.len()) {
-        let mut buf = [0u8; 32768];
-        let n = put_postfixed(&mut buf, key, lang, country, modifier);
-        return rows::find_key(file, group, &buf[..n]);
-    }
-    Found::Nothing
+    5
 }
 
-// The first present of the two candidates with this country: with the modifier, if there is one, and without.
-fn find_with(
-    file: &[u8],
-    group: &[u8],
-    key: &[u8],
-    lang: &[u8],
-    country: &[u8],
-    modifier: &[u8],
-) -> Found
-    requires { ⌜ (noneBad (now file) ≡ true) × (length (now file) ≤ 32768) ⌝ }
-    ensures { λ r. ⌜ r ≡ toldOf (spec.firstKey (readRows (now (file .entry))) (now (group .entry))
-        (map (spec.postfixed (now (key .entry))) (candidatesWith (now (lang .entry)) (now (country .entry)) (now (modifier .entry))))) ⌝ }
+// The rank of a line's key among those that a locale of these parts asks for, encodings apart; 5: it is none of them.
+fn rank(l: &[u8], key: &[u8], locale: &[u8], p: Parts) -> usize
+    requires { ⌜ (lists.all keyByte (now key) ≡ true) × (localeForm (now locale) ≡ true) × (p ≡ parts (now locale)) ⌝ }
+    ensures { λ r. ⌜ r ≡ step.rankOf (step.allKeys (now (key .entry)) (now (locale .entry))) (now (l .entry)) (readName (now (l .entry))) ⌝ }
 {
-    if modifier.len() == 0 {
-        return find_postfixed(file, group, key, lang, country, b"");
+    let n = key.len();
+    if l.len() < n {
+        return 5;
     }
-    match find_postfixed(file, group, key, lang, country, modifier) {
-        Found::Row {
-            line,
-            start,
-            end,
-            value,
-        } => Found::Row {
-            line,
-            start,
-            end,
-            value,
-        },
-        Found::Nothing => find_postfixed(file, group, key, lang, country, b""),
+    if rows::same(key, &l[..n]) {
+        return match line::read_name(l) {
+            Named::Name { key: k, name } => {
+                if k == n {
+                    if name == k {
+                        return 4;
+                    }
+                    return rank_postfix(&l[k + 1..name], locale, p);
+                }
+                5
+            }
+            Named::NoName(_) => 5,
+        };
     }
+    5
 }
 
-// The first present of the candidates without a country, last the plain key.
-fn find_without(file: &[u8], group: &[u8], key: &[u8], lang: &[u8], modifier: &[u8]) -> Found
-    requires { ⌜ (noneBad (now file) ≡ true) × (length (now file) ≤ 32768) ⌝ }
-    ensures { λ r. ⌜ r ≡ toldOf (spec.firstKey (readRows (now (file .entry))) (now (group .entry))
-        (map (spec.postfixed (now (key .entry))) (candidatesWith (now (lang .entry)) [] (now (modifier .entry))) ++ (now (key .entry) ∷ []))) ⌝ }
+// The first row of the best rank, in a file without bad lines. A row behind it counts only where it is better.
+fn find_best(file: &[u8], group: &[u8], key: &[u8], locale: &[u8], p: Parts) -> Found
+    requires { ⌜ (noneBad (now file) ≡ true) × (lists.all keyByte (now key) ≡ true) × (localeForm (now locale) ≡ true) × (p ≡ parts (now locale)) ⌝ }
+    ensures { λ r. ⌜ r ≡ toldOf (spec.firstKey (readRows (now (file .entry))) (now (group .entry)) (step.allKeys (now (key .entry)) (now (locale .entry)))) ⌝ }
 {
-    match find_with(file, group, key, lang, b"", modifier) {
-        Found::Row {
-            line,
-            start,
-            end,
-            value,
-        } => Found::Row {
-            line,
-            start,
-            end,
-            value,
-        },
-        Found::Nothing => rows::find_key(file, group, key),
+    let mut at: usize = 0;
+    let mut n: usize = 1;
+    let mut inside = group.len() == 0;
+    let mut best: usize = 5;
+    let mut found = Found::Nothing;
+    while at < file.len() {
+        let e = rows::line_end(file, at);
+        let l = &file[at..e];
+        inside = rows::is_inside(l, group, inside);
+        if inside {
+            let r = rank(l, key, locale, p);
+            if r < best {
+                best = r;
+                found = Found::Row {
+                    line: n,
+                    start: at,
+                    end: e,
+                    value: at + rows::value_start(l),
+                };
+            }
+        }
+        if best == 0 {
+            return found;
+        }
+        at = e + 1;
+        n += 1;
     }
+    found
 }
 
-// The first present of the candidates of a locale that is not plain, last the plain key.
-fn find_first(
-    file: &[u8],
-    group: &[u8],
-    key: &[u8],
-    lang: &[u8],
-    country: &[u8],
-    modifier: &[u8],
-) -> Found
-    requires { ⌜ (noneBad (now file) ≡ true) × (length (now file) ≤ 32768) ⌝ }
-    ensures { λ r. ⌜ r ≡ toldOf (spec.firstKey (readRows (now (file .entry))) (now (group .entry))
-        (map (spec.postfixed (now (key .entry))) (candidatesOf (now (lang .entry)) (now (country .entry)) (now (modifier .entry))) ++ (now (key .entry) ∷ []))) ⌝ }
-{
-    if country.len() == 0 {
-        return find_without(file, group, key, lang, modifier);
-    }
-    match find_with(file, group, key, lang, country, modifier) {
-        Found::Row {
-            line,
-            start,
-            end,
-            value,
-        } => Found::Row {
-            line,
-            start,
-            end,
-            value,
-        },
-        Found::Nothing => find_without(file, group, key, lang, modifier),
-    }
-}
-
-// The first present candidate, last the plain key, in a file without bad lines.
+// The row of the first present candidate, last the plain key, in a file without bad lines.
 pub fn choose_row(file: &[u8], group: &[u8], key: &[u8], locale: &[u8]) -> Found
-    requires { ⌜ (noneBad (now file) ≡ true) × (length (now file) ≤ 32768) ⌝ }
+    requires { ⌜ (noneBad (now file) ≡ true) × (plainForm (now key) ≡ true) × (localeForm (now locale) ≡ true) ⌝ }
     ensures { λ r. ⌜ r ≡ toldOf (spec.chosen (readRows (now (file .entry))) (now (group .entry)) (now (key .entry)) (now (locale .entry))) ⌝ }
 {
     let p = line::read_parts(locale);
-    let a = p.lang;
-    let b = a + p.country;
-    let e = b + p.encoding;
-    let lang = &locale[..a];
-    let country = &locale[a..b];
-    let modifier = &locale[e..];
-    if is_plain(lang, country, modifier) {
+    if is_plain(locale, p) {
         return rows::find_key(file, group, key);
     }
-    find_first(file, group, key, lang, country, modifier)
+    find_best(file, group, key, locale, p)
 }

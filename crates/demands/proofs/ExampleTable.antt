@@ -14,7 +14,7 @@ use Rattle.record.specs.Record.{headBytes, recordBytes, listBytes, listOf, cutA
 use Rattle.rows.specs.Rows.{rows, lineOf, ended, rowsFrom, readRows, rawValue}
 use Rattle.rows.specs.Title.{title, sameTitle, findRow}
 use Rattle.wellformed.specs.Check.{titleFault, earliest, plainOf, noPlain, titledAs, plainAll, checkAs}
-use Rattle.choice.specs.Locale.{stripped, plainLocale, candidates, firstKey, chosen}
+use Rattle.choice.specs.Locale.{stripped, plainLocale, candidates, strippedKey, findStripped, firstKey, chosen}
 use Rattle.entry.specs.Lookup.{valueEnds, lookup}
 use Rattle.entry.specs.Choose.{choose}
 use Rattle.splice.specs.Edit.{spliced, bufferWith, replaced}
@@ -34,7 +34,7 @@ unfolding same span any all first last keyByte groupByte blankByte valueByte tex
     textEscape escape textFrom readText escaped escapedAll rawText fitText writeText rawElements eachRead elementsOf readElements
     marked parts emptyPart isLocale postfixAt readName entryAfter readEntry readHeader readLine groupForm plainForm keyForm localeForm
     rows lineOf rowsFrom readRows title sameTitle findRow titleFault earliest plainOf noPlain titledAs plainAll checkAs
-    stripped plainLocale candidates firstKey chosen valueEnds lookup choose
+    stripped plainLocale candidates strippedKey findStripped firstKey chosen valueEnds lookup choose
     littleEndian numberOf headBytes recordBytes listBytes listOf cutAfter ended rawValue spliced replaced bufferWith inserting setEdit editOf
     editBytes editRecord partedAt readJournal numbersFit lengthsFit opened applied request
     joined bodiesOf readList readEach readRecords quoteLength wordLength wordsAfter

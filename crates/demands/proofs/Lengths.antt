@@ -9,7 +9,7 @@ use lib.ListN.{length, take, drop, getD, length-append, length-take, length-drop
 use lib.Dec.{eqb, leb}
 use borrow.Author.Tests.{leb-true}
 use Rattle.base.specs.Choice.{pick, maybe}
-use Rattle.base.specs.Lists.{ascii, all}
+use Rattle.base.specs.Lists.{ascii, all, first}
 use Rattle.base.proofs.Lists.{length-part}
 use Rattle.base.proofs.Tests.{and-both}
 use Rattle.fault.specs.declared.Fault.the-variants.{Missing}
@@ -21,10 +21,9 @@ use Rattle.record.proofs.Back.{FitsAll, no-record, one-more, fits}
 use Rattle.record.proofs.Bodies.{list-sound, list-back}
 use Rattle.text.specs.Escape.{readText}
 use Rattle.rows.specs.Rows.{Row, readRows, rawValue}
-use Rattle.rows.specs.Title.{Title, Key, findRow, desktopEntry}
+use Rattle.rows.specs.Title.{Title, title, sameTitle, findRow, desktopEntry}
 use Rattle.wellformed.specs.Check.{fileMost, checkAs, checkedRows}
 use Rattle.choice.specs.Locale.{chosen}
-use Rattle.choice.proofs.Chosen.{first-chosen}
 use Rattle.command.specs.declared.Piece.{Piece}
 use Rattle.command.specs.declared.Piece.the-variants as piece
 use Rattle.command.specs.declared.Form.{Form}
@@ -37,7 +36,7 @@ use Rattle.exec.specs.Step.{putOf, itemsIn}
 use Rattle.exec.proofs.Spending.{bytes-cons, bytes-none}
 use Rattle.exec.proofs.Listing.{length-cons, length-one, items-length}
 use Rattle.entry.specs.Lookup.{valueEnds}
-use Rattle.entry.proofs.Lookups.{row-inside, row-stands}
+use Rattle.entry.proofs.Lookups.{first-inside, first-stands, chosen-found}
 use Rattle.exec.proofs.Values.{read-le}
 use Rattle.demands.proofs.Expansions.{Sound, Listed, argumentsOf}
 
@@ -159,18 +158,23 @@ fits-all (one-is b p h) = one-more (fits (record { kind = 3; body = b }) (omega 
 -- ---- how long the texts are
 
 -- the raw value of a row that was found is no longer than the file
-raw-short : (file : List ℕ) (t : Title) (r : Row) → findRow (readRows file) t ≡ some r → length (rawValue r) ≤ length file
-raw-short file t r i =
+raw-short : (file : List ℕ) (p : Row → Bool) (r : Row) → first p (readRows file) ≡ some r → length (rawValue r) ≤ length file
+raw-short file p r i =
     let e = valueEnds r in
-    let h : e .to ≤ length file = row-inside file t r i .1 in
-    rw (← row-stands file t r i) (omega (arith, length-part (e .from) (e .to) file h))
+    let h : e .to ≤ length file = first-inside file p r i .1 in
+    rw (← first-stands file p r i) (omega (arith, length-part (e .from) (e .to) file h))
 
-text-short : (file : List ℕ) (t : Title) (r : Row) → findRow (readRows file) t ≡ some r → {s : List ℕ} → readText (rawValue r) ≡ given s → length s ≤ length file
-text-short file t r i e = omega (arith, rw e at (read-le (rawValue r)), raw-short file t r i)
+text-short : (file : List ℕ) (p : Row → Bool) (r : Row) → first p (readRows file) ≡ some r → {s : List ℕ} → readText (rawValue r) ≡ given s → length s ≤ length file
+text-short file p r i e = omega (arith, rw e at (read-le (rawValue r)), raw-short file p r i)
+
+-- the same of one that was found by its title
+titled-short : (file : List ℕ) (t : Title) (r : Row) → findRow (readRows file) t ≡ some r → {s : List ℕ} → readText (rawValue r) ≡ given s → length s ≤ length file
+unfolding findRow
+titled-short file t r i e = text-short file (λ s. sameTitle t (title s)) r i e
 
 module _ (file locale : List ℕ) where
   chosen-short : (group key : List ℕ) (r : Row) → chosen (readRows file) group key locale ≡ some r → {s : List ℕ} → readText (rawValue r) ≡ given s → length s ≤ length file
-  chosen-short group key r i e = let w = first-chosen (readRows file) group key locale r i in text-short file (Key group (w .key)) r (w .found) e
+  chosen-short group key r i e = let w = chosen-found file group key locale r i in text-short file (w .0) r (w .1) e
 
   name-short : (asked : Bool) {name : List ℕ} → nameText (readRows file) locale asked ≡ given name → length name ≤ length file
   unfolding nameText
@@ -229,7 +233,7 @@ arguments-short {file} {locale} {location} {list} s items w run =
     })
     (each-weaker (λ b l. omega arith) h)
     (omega (arith, icon-short file locale desktopEntry _ (s .pictured)))
-    (each-weaker (few-more (omega (arith, text-short file _ (s .row) (s .found) (s .unescaped)))) (command-few (s .exec) (s .command) (s .read))))
+    (each-weaker (few-more (omega (arith, titled-short file _ (s .row) (s .found) (s .unescaped)))) (command-few (s .exec) (s .command) (s .read))))
   where
     few-more : {n : ℕ} → n ≤ 32768 → (a : Argument) → Few n a → Few 32768 a
     few-more h Files f = tt

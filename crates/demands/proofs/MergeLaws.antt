@@ -14,19 +14,19 @@ use Rattle.fault.proofs.Answers.{bind-given, given-is}
 use Rattle.text.specs.Escape.{readText, rawText, fitText}
 use Rattle.line.specs.Form.{groupForm, plainForm, localeForm}
 use Rattle.rows.specs.Rows.{Row, rows, readRows, rawValue}
-use Rattle.rows.specs.Title.{desktopEntry, Title, Key, sameTitle, findRow}
+use Rattle.rows.specs.Title.{desktopEntry, Title, Key, sameTitle}
 use Rattle.rows.proofs.Rows.{IsRows, rows-are, joined-rows}
 use Rattle.rows.proofs.Titles.{nameless, sameTitle-true}
 use Rattle.rows.proofs.Sight.{linesOf}
 use Rattle.wellformed.specs.WellFormed.{wellFormed}
 use Rattle.wellformed.proofs.Accepts.{checks}
-use Rattle.choice.specs.Locale.{firstKey, keysOf, chosen}
+use Rattle.choice.specs.Locale.{strippedTitle, findStripped, firstKey, keysOf, chosen}
 use Rattle.entry.specs.Lookup.{lookup}
 use Rattle.entry.specs.Choose.{choose}
 use Rattle.entry.proofs.Lookups.{chosen-stands}
 use Rattle.change.specs.Change.{Request, Set, Remove}
 use Rattle.journal.specs.Journal.{Author, Authored, by}
-use Rattle.change.proofs.LineValues.{AlikeBut, value-file}
+use Rattle.change.proofs.LineValues.{AlikeBut, first-file}
 use Rattle.change.proofs.Accepted.{set-of}
 use Rattle.change.proofs.Kept.{value-of}
 use Rattle.change.proofs.Sets.{valued, valued-rows, valued-twice, set-rows}
@@ -177,15 +177,17 @@ sets-commute s s₁ s₂ r r₂ r₁ author₁ author₂ group₁ key₁ text₁
 -- ---- choice
 
 -- the value of the first present of some keys: an entry that none of them names has no part in it
-keys-alike : (t : Title) (f h group : List ℕ) (ks : List (List ℕ)) → AlikeBut t (linesOf f) (linesOf h) → any (λ k. sameTitle (Key group k) t) ks ≡ false
+keys-alike : (t : Title) (f h group : List ℕ) (ks : List (List ℕ)) → AlikeBut t (linesOf f) (linesOf h) → any (λ k. sameTitle (Key group k) (strippedTitle t)) ks ≡ false
     → Option·map rawValue (firstKey (readRows f) group ks) ≡ Option·map rawValue (firstKey (readRows h) group ks)
-unfolding firstKey any
+unfolding firstKey findStripped any
 keys-alike t f h group [] a e = refl
 keys-alike t f h group (k ∷ ks) a e =
-    let b = or-both (sameTitle (Key group k) t) (any (λ k. sameTitle (Key group k) t) ks) e in
-    let i = value-file f (Key group k) ∙ a (sameTitle (Key group k)) (nameless (Key group k)) (b .0) ∙ sym (value-file h (Key group k)) in
-    first-value (findRow (readRows f) (Key group k)) (firstKey (readRows f) group ks) ∙ rw (i, keys-alike t f h group ks a (b .1))
-    (sym (first-value (findRow (readRows h) (Key group k)) (firstKey (readRows h) group ks)))
+    let p : Title → Bool = λ u. sameTitle (Key group k) (strippedTitle u) in
+    let b = or-both (p t) (any (λ k. sameTitle (Key group k) (strippedTitle t)) ks) e in
+    let x : Option Row = findStripped (readRows f) (Key group k) in
+    let y : Option Row = findStripped (readRows h) (Key group k) in
+    let i : Option·map rawValue x ≡ Option·map rawValue y = first-file p f ∙ a p (nameless (Key group k)) (b .0) ∙ sym (first-file p h) in
+    first-value x (firstKey (readRows f) group ks) ∙ rw (i, keys-alike t f h group ks a (b .1)) (sym (first-value y (firstKey (readRows h) group ks)))
   where
     first-value : (o later : Option Row) → Option·map rawValue (maybe o later some) ≡ maybe (Option·map rawValue o) (Option·map rawValue later) some
     first-value none later = refl

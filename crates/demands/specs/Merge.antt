@@ -7,7 +7,7 @@ use mathlib.Core.List.{List, [], _∷_}
 use Rattle.base.specs.Lists.{any, all}
 use Rattle.fault.specs.Answer.{Answer, given, _>>=_, accepted}
 use Rattle.rows.specs.Title.{Title, Key, sameTitle}
-use Rattle.choice.specs.Locale.{keysOf}
+use Rattle.choice.specs.Locale.{strippedTitle, keysOf}
 use Rattle.entry.specs.Lookup.{lookup}
 use Rattle.change.specs.Change.{Request, Set, Remove}
 use Rattle.journal.specs.Journal.{Author, Authored, by}
@@ -54,9 +54,9 @@ SetListsCommute = (s s₁ s₂ r r₂ r₁ : State) (ps qs : List (Authored Requ
     → requestAll r qs ≡ given r₂ → requestAll r₂ ps ≡ given r₁
     → content s₂ ≡ content r₁
 
--- an entry is among the candidates of a choice: the keys that the locale asks for, the plain key among them
+-- an entry is among the candidates of a choice, its encoding apart: the keys that the locale asks for, the plain key among them
 abbrev pub isCandidate : Title → List ℕ → List ℕ → List ℕ → Bool
-isCandidate entry group key locale = any (λ k. sameTitle (Key group k) entry) (keysOf key locale)
+isCandidate entry group key locale = any (λ k. sameTitle (Key group k) (strippedTitle entry)) (keysOf key locale)
 
 -- the raw value chosen by language, or the refusal, may change only where the edited entry is among the candidates
 unfoldable pub ChoiceReadsAsBefore : Type 0

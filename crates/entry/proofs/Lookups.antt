@@ -8,14 +8,14 @@ use mathlib.Core.List.{List}
 use lib.ListN.{length}
 use Rattle.fault.specs.declared.Fault.the-variants.{BadArgument, Missing}
 use Rattle.fault.specs.Answer.{Answer, given, refused, _>>=_, need, some-or, then}
-use Rattle.base.specs.Lists.{part}
-use Rattle.choice.specs.Locale.{chosen}
-use Rattle.choice.proofs.Chosen.{first-chosen}
+use Rattle.base.specs.Lists.{part, first}
+use Rattle.choice.specs.Locale.{strippedTitle, findStripped, chosen}
+use Rattle.choice.proofs.Chosen.{chosen-by}
 use Rattle.line.specs.Form.{groupForm, keyForm, plainForm, localeForm}
 use Rattle.rows.specs.Rows.{Row, readRows, rawValue}
-use Rattle.rows.specs.Title.{Title, Key, findRow}
+use Rattle.rows.specs.Title.{Title, Key, title, sameTitle, findRow}
 use Rattle.rows.specs.Find.{toldOf}
-use Rattle.rows.proofs.Told.{found-row, line-inside, value-inside, value-stands}
+use Rattle.rows.proofs.Told.{found-by, line-inside, value-inside, value-stands}
 use Rattle.wellformed.specs.Check.{check}
 use Rattle.entry.specs.Choose.{chosenEnds, choose}
 use Rattle.entry.specs.Lookup.{Extent, valueEnds, lookup, answered, endsOf}
@@ -31,18 +31,30 @@ abbrev pub Inside : ℕ → Answer Extent → Type 0
 Inside n (given x) = (x .from ≤ x .to) × (x .to ≤ n)
 Inside n (refused f) = Unit
 
-pub row-inside : (file : List ℕ) (t : Title) (r : Row) → findRow (readRows file) t ≡ some r → Inside (length file) (given (valueEnds r))
-unfolding valueEnds
-row-inside file t r e =
-    let w = found-row file t r e in
-    let l = line-inside file w in
-    let m = value-inside file w in
-    (omega arith, omega arith)
+-- a row that was found by a test
+module _ (file : List ℕ) (p : Row → Bool) (r : Row) (e : first p (readRows file) ≡ some r) where
+  pub first-inside : Inside (length file) (given (valueEnds r))
+  unfolding valueEnds
+  first-inside =
+      let w = found-by file p r e in
+      let l = line-inside file w in
+      let m = value-inside file w in
+      (omega arith, omega arith)
 
--- a row's value stands between its ends
-pub row-stands : (file : List ℕ) (t : Title) (r : Row) → findRow (readRows file) t ≡ some r → part (valueEnds r .from) (valueEnds r .to) file ≡ rawValue r
-unfolding valueEnds rawValue
-row-stands file t r e = value-stands file (found-row file t r e)
+  -- its value stands between its ends
+  pub first-stands : part (valueEnds r .from) (valueEnds r .to) file ≡ rawValue r
+  unfolding valueEnds rawValue
+  first-stands = value-stands file (found-by file p r e)
+
+-- the same of one that was found by its title
+module _ (file : List ℕ) (t : Title) (r : Row) (e : findRow (readRows file) t ≡ some r) where
+  pub row-inside : Inside (length file) (given (valueEnds r))
+  unfolding findRow
+  row-inside = first-inside file (λ s. sameTitle t (title s)) r e
+
+  pub row-stands : part (valueEnds r .from) (valueEnds r .to) file ≡ rawValue r
+  unfolding findRow
+  row-stands = first-stands file (λ s. sameTitle t (title s)) r e
 
 pub lookup-inside : (file group key : List ℕ) → Inside (length file) (lookup file group key)
 unfolding lookup
@@ -58,16 +70,17 @@ lookup-inside file group key = by (check file) (groupForm group && keyForm key) 
 -- ---- choice
 
 module _ (file group key locale : List ℕ) where
-  -- the row that is chosen was found by a title
-  chosen-found : (r : Row) → chosen (readRows file) group key locale ≡ some r → (t : Title) × (findRow (readRows file) t ≡ some r)
-  chosen-found r e = let w = first-chosen (readRows file) group key locale r e in (Key group (w .key), w .found)
+  -- the row that is chosen was found by a key, encodings apart
+  pub chosen-found : (r : Row) → chosen (readRows file) group key locale ≡ some r → (p : Row → Bool) × (first p (readRows file) ≡ some r)
+  unfolding findStripped
+  chosen-found r e = let w = chosen-by (readRows file) group key locale r e in (λ s. sameTitle (Key group (w .0)) (strippedTitle (title s)), w .1)
 
   pub chosen-inside : Inside (length file) (chosenEnds (readRows file) group key locale)
   chosen-inside = by (chosen (readRows file) group key locale) refl
     where
       by : (o : Option Row) → chosen (readRows file) group key locale ≡ o → Inside (length file) (some-or o Missing >>= λ r. given (valueEnds r))
       by none e = tt
-      by (some r) e = let w = chosen-found r e in row-inside file (w .0) r (w .1)
+      by (some r) e = let w = chosen-found r e in first-inside file (w .0) r (w .1)
 
   pub choose-inside : Inside (length file) (choose file group key locale)
   unfolding choose
@@ -86,4 +99,4 @@ module _ (file group key locale : List ℕ) where
       by : (o : Option Row) → chosen (readRows file) group key locale ≡ o
           → then (λ e. part (e .from) (e .to) file) (some-or o Missing >>= λ r. given (valueEnds r)) ≡ then rawValue (some-or o Missing)
       by none e = refl
-      by (some r) e = let w = chosen-found r e in ap given (row-stands file (w .0) r (w .1))
+      by (some r) e = let w = chosen-found r e in ap given (first-stands file (w .0) r (w .1))

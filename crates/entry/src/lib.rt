@@ -5,9 +5,8 @@ use rows::Found;
 use wellformed::Checked;
 ghost use mathlib.Core.Path.{_≡_};
 ghost use mathlib.Core.Bool.{true};
-ghost use Prim.Native.Nat.{_≤_};
-ghost use lib.ListN.{length};
 ghost use Rattle.base.specs.Lists.{part};
+ghost use Rattle.line.specs.Form.{plainForm, localeForm};
 ghost use Rattle.rows.specs.Rows.{readRows};
 ghost use Rattle.rows.specs.Find.{noneBad};
 ghost use Rattle.entry.specs.Lookup as spec;
@@ -69,7 +68,7 @@ pub fn lookup<'a, 'b>(file: &'a [u8], group: &'b [u8], key: &'b [u8]) -> &'a [u8
 
 // The raw value of a plain key that a locale takes in a file already checked, by its two ends: 8.
 pub fn chosen_ends(file: &[u8], group: &[u8], key: &[u8], locale: &[u8]) -> Ends
-    requires { ⌜ (noneBad (now file) ≡ true) × (length (now file) ≤ 32768) ⌝ }
+    requires { ⌜ (noneBad (now file) ≡ true) × (plainForm (now key) ≡ true) × (localeForm (now locale) ≡ true) ⌝ }
     ensures { λ r. ⌜ spec.answered r ≡ choice.chosenEnds (readRows (now (file .entry))) (now (group .entry)) (now (key .entry)) (now (locale .entry)) ⌝ }
 {
     ends_of(choice::choose_row(file, group, key, locale))

@@ -18,6 +18,9 @@ fn main() {
     values::lookups(t);
     values::refused_lookups(t);
     values::choices(t);
+    values::choices_by_encoded_keys(
+        b"[Desktop Entry]\nType=Application\nName=A\nName[de_DE.UTF-8]=B\nName[de_DE]=C\nName[de.UTF-8@x]=D\n",
+    );
     values::refused_choices(t);
     texts::texts_read();
     texts::texts_written();

@@ -64,6 +64,16 @@ pub fn choices(t: &[u8; 71]) {
     choose_name(t, b"");
 }
 
+// Encodings do not count for the choice: of two keys that differ in them alone, the earlier line is taken. Lookup compares the whole key.
+pub fn choices_by_encoded_keys(t: &[u8; 93]) {
+    choose_name(t, b"de_DE");
+    choose_name(t, b"de_DE.ISO-8859-1@x");
+    choose_name(t, b"de@x");
+    choose_name(t, b"de");
+    choose_name(t, b"C.UTF-8");
+    lookup(t, b"Desktop Entry", b"Name[de_DE]");
+}
+
 pub fn refused_choices(t: &[u8; 71]) {
     choose(b"", b"Desktop Entry", b"Name", b"_");
     choose_name(b"[Desktop Entry]\nName[\n", b"_");

@@ -30,6 +30,7 @@ pub record Granted (file locale location list : List ℕ) (n : ℕ) : Type 0 whe
   pub checks : given tt ≡ check file
   pub reads : there (readList 2 listMost list) ≡ true
   pub counts : n ≡ length (itemsIn list)
+  pub locale-form : localeForm locale ≡ true
   pub is : askedItems file locale location list ≡ given (itemsIn list)
 
 pub asked-given : (file locale location list : List ℕ) {n : ℕ} → given n ≡ then length (askedItems file locale location list) → Granted file locale location list n
@@ -45,6 +46,7 @@ asked-given file locale location list {n} h =
           checks = c;
           reads = rw r;
           counts = rw r (cc);
+          locale-form = l;
           is = rw (← c, r, l, f);
         }
 

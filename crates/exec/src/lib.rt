@@ -23,6 +23,7 @@ ghost use Rattle.base.specs.Choice.{there};
 ghost use Rattle.fault.specs.Answer.{given, then};
 ghost use Rattle.record.specs.Record.{readList, listMost, listOf};
 ghost use Rattle.text.specs.Output.{answered, told, held};
+ghost use Rattle.line.specs.Form.{localeForm};
 ghost use Rattle.rows.specs.Rows.{readRows};
 ghost use Rattle.rows.specs.Find.{noneBad};
 ghost use Rattle.command.specs.Command.{argumentsIn};
@@ -131,7 +132,7 @@ fn run_command(
     out: &mut [u8],
 ) -> Written
     requires { ⌜ (length (now exec) ≤ 32768) × (seen ≡ codesIn (argumentsIn (now exec))) × (noneBad (now file) ≡ true) × (length (now file) ≤ 32768)
-        × (there (readList 2 listMost (now list)) ≡ true) × (count ≡ length (step.itemsIn (now list))) ⌝ }
+        × (there (readList 2 listMost (now list)) ≡ true) × (count ≡ length (step.itemsIn (now list))) × (localeForm (now locale) ≡ true) ⌝ }
     ensures answer { λ r. ⌜ answered r ≡ told (then (listOf 3) (spec.runArguments (argumentsIn (now (exec .entry))) (readRows (now (file .entry))) (now (group .entry))
         (now (locale .entry)) (now (location .entry)) (step.itemsIn (now (list .entry))) run)) (now (out .entry)) ⌝ }
     ensures output { λ _. ⌜ now (out .exit) ≡ held (then (listOf 3) (spec.runArguments (argumentsIn (now (exec .entry))) (readRows (now (file .entry))) (now (group .entry))
@@ -173,7 +174,8 @@ fn expand_group(
     run: usize,
     out: &mut [u8],
 ) -> Written
-    requires { ⌜ (noneBad (now file) ≡ true) × (length (now file) ≤ 32768) × (there (readList 2 listMost (now list)) ≡ true) × (count ≡ length (step.itemsIn (now list))) ⌝ }
+    requires { ⌜ (noneBad (now file) ≡ true) × (length (now file) ≤ 32768) × (there (readList 2 listMost (now list)) ≡ true) × (count ≡ length (step.itemsIn (now list)))
+        × (localeForm (now locale) ≡ true) ⌝ }
     ensures answer { λ r. ⌜ answered r ≡ told (then (listOf 3) (spec.groupArguments (readRows (now (file .entry))) (now (group .entry))
         (now (locale .entry)) (now (location .entry)) (step.itemsIn (now (list .entry))) run)) (now (out .entry)) ⌝ }
     ensures output { λ _. ⌜ now (out .exit) ≡ held (then (listOf 3) (spec.groupArguments (readRows (now (file .entry))) (now (group .entry))

@@ -8,6 +8,7 @@ ghost use lib.ListN.{length};
 ghost use Rattle.fault.specs.Answer.{then};
 ghost use Rattle.text.specs.Escape.{readText};
 ghost use Rattle.text.specs.Output.{answered};
+ghost use Rattle.line.specs.Form.{localeForm};
 ghost use Rattle.rows.specs.Rows.{readRows};
 ghost use Rattle.rows.specs.Find.{noneBad};
 ghost use Rattle.entry.specs.Lookup as ends;
@@ -34,7 +35,7 @@ fn refusal_of(e: Ends) -> Written
 
 // The text of Name by locale, where it is wanted.
 pub fn name_text(file: &[u8], locale: &[u8], wanted: bool, out: &mut [u8]) -> Written
-    requires { ⌜ (noneBad (now file) ≡ true) × (length (now file) ≤ 32768) × (32768 ≤ length (now out)) ⌝ }
+    requires { ⌜ (noneBad (now file) ≡ true) × (length (now file) ≤ 32768) × (32768 ≤ length (now out)) × (localeForm (now locale) ≡ true) ⌝ }
     ensures { λ r. ⌜ ReadTo (spec.nameText (readRows (now (file .entry))) (now (locale .entry)) wanted) (now (out .entry)) r (now (out .exit)) ⌝ }
 {
     if wanted {
@@ -49,7 +50,7 @@ pub fn name_text(file: &[u8], locale: &[u8], wanted: bool, out: &mut [u8]) -> Wr
 
 // The text of a group's Icon by locale, where it is wanted; a missing one is none. In a file already checked the choice is refused with 8 only.
 pub fn icon_text(file: &[u8], group: &[u8], locale: &[u8], wanted: bool, out: &mut [u8]) -> Written
-    requires { ⌜ (noneBad (now file) ≡ true) × (length (now file) ≤ 32768) × (32768 ≤ length (now out)) ⌝ }
+    requires { ⌜ (noneBad (now file) ≡ true) × (length (now file) ≤ 32768) × (32768 ≤ length (now out)) × (localeForm (now locale) ≡ true) ⌝ }
     ensures { λ r. ⌜ ReadTo (spec.iconText (readRows (now (file .entry))) (now (group .entry)) (now (locale .entry)) wanted) (now (out .entry)) r (now (out .exit)) ⌝ }
 {
     if wanted {

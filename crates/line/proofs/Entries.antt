@@ -142,7 +142,7 @@ name-is s key name (postfixed i t₁ t₂ t₃ t₄ j) = rw (← i, t₁, t₂, 
 
 -- ---- the plain key is the front of the name
 
-name-key : (s : List ℕ) (key name : ℕ) → IsName s key name → key ≡ span keyByte s
+pub name-key : (s : List ℕ) (key name : ℕ) → IsName s key name → key ≡ span keyByte s
 name-key s key name (plain-name i t₁ t₂ j) = i
 name-key s key name (postfixed i t₁ t₂ t₃ t₄ j) = i
 

@@ -2,14 +2,15 @@
 use mathlib.Core.Path.{_≡_, refl, sym, ap, _∙_}
 use Prim.Native.Nat.{ℕ, _-_, _≤_, _<_}
 use native.Mathlib.Omega.{arith}
-use mathlib.Core.Bool.{true, false, _&&_, and-false, false≢true}
-use mathlib.Core.List.{List, []}
+use mathlib.Core.Bool.{Bool, true, false, _&&_, and-false, false≢true}
+use mathlib.Core.List.{List, [], _∷_}
 use lib.ListN.{length, take, length-take}
 use lib.Seq.{length-take-le}
 use lib.Dec.{eqb}
 use borrow.Author.Tests.{eqb-true, eqb-false}
 use Rattle.base.specs.Lists.{same}
 use Rattle.base.proofs.Tests.{no, by-test, same-true}
+use Rattle.text.specs.Class.{keyByte}
 use Rattle.line.specs.Name.{byteAt, readName}
 use Rattle.line.specs.Line.{readLine, isBad}
 use Rattle.line.specs.declared.Line.{Line}
@@ -17,10 +18,10 @@ use Rattle.line.specs.declared.Line.the-variants.{Blank, Comment, Header, Entry
 use Rattle.line.specs.declared.Named.{Named}
 use Rattle.line.specs.declared.Named.the-variants.{Name, NoName}
 use Rattle.line.proofs.Bounds.{NamedWithin, name-within, LineWithin, line-within}
-use Rattle.line.proofs.FirstByte.{Headed, headed-line, Unheaded, unheaded-line}
+use Rattle.line.proofs.FirstByte.{Headed, headed-line, no-name, Unheaded, unheaded-line}
 use Rattle.rows.specs.Rows.{groupAfter, valueStart}
-use Rattle.rows.specs.Title.{Group, Key, titleOf, sameTitle}
-use Rattle.rows.specs.Find.{namedAs}
+use Rattle.rows.specs.Title.{Title, Nameless, Group, Key, titleOf, sameTitle}
+use Rattle.rows.specs.Find.{namedAs, insideAfter}
 
 -- a value starts in its line
 pub value-le : (l : List ℕ) → valueStart (readLine l) ≤ length l
@@ -46,6 +47,12 @@ header-good l e h = go (readLine l) (headed-line l e) (line-within l) h
     go (Entry key name value) a b h = absurd a
     go (Bad n) a b h = no (cc)
 
+-- it names no key
+headed-name : (l : List ℕ) → eqb (byteAt l 0) 91 ≡ true → readName l ≡ NoName 0
+unfolding keyByte
+headed-name [] e = absurd (false≢true e)
+headed-name (b ∷ l) e = let z : b ≡ 91 = eqb-true b 91 e in no-name b l (rw z)
+
 -- ---- a line that does not
 
 -- it leaves the group
@@ -53,6 +60,17 @@ pub group-stays : (g l : List ℕ) → eqb (byteAt l 0) 91 ≡ false → groupAf
 group-stays g l e = go (readLine l) (unheaded-line l e)
   where
     go : (r : Line) → Unheaded l r → groupAfter g l r ≡ g
+    go Blank a = refl
+    go Comment a = refl
+    go (Header e) a = absurd a
+    go (Entry key name value) a = refl
+    go (Bad n) a = refl
+
+-- what stands in a group stays in it
+pub inside-stays : (group l : List ℕ) (inside : Bool) → eqb (byteAt l 0) 91 ≡ false → inside ≡ insideAfter group l inside (readLine l)
+inside-stays group l inside e = go (readLine l) (unheaded-line l e)
+  where
+    go : (r : Line) → Unheaded l r → inside ≡ insideAfter group l inside r
     go Blank a = refl
     go Comment a = refl
     go (Header e) a = absurd a
@@ -71,18 +89,47 @@ no-group g h l e = go (readLine l) (unheaded-line l e)
     go (Entry key name value) a = refl
     go (Bad n) a = refl
 
--- it has a key's title if its name is the key, and it is good
-pub key-title : (g h k l : List ℕ) → eqb (byteAt l 0) 91 ≡ false → isBad (readLine l) ≡ false
-    → sameTitle (Key h k) (titleOf g l (readLine l)) ≡ (same h g && namedAs k l (readName l))
-unfolding sameTitle
-key-title g h k l e = go (readLine l) (unheaded-line l e)
+-- ---- a good line
+
+-- whether it stands in a group, by the group that it stands in
+pub inside-after : (group g l : List ℕ) → insideAfter group l (same group g) (readLine l) ≡ same group (groupAfter g l (readLine l))
+inside-after group g l = go (readLine l)
   where
-    go : (r : Line) → Unheaded l r → isBad r ≡ false → sameTitle (Key h k) (titleOf g l r) ≡ (same h g && namedAs k l (readName l))
-    go Blank a b = rw a (sym (and-false (same h g)))
-    go Comment a b = rw a (sym (and-false (same h g)))
+    go : (r : Line) → insideAfter group l (same group g) r ≡ same group (groupAfter g l r)
+    go Blank = refl
+    go Comment = refl
+    go (Header e) = refl
+    go (Entry key name value) = refl
+    go (Bad n) = refl
+
+-- the title of a key, if the line names one
+abbrev pub keyTitle : List ℕ → List ℕ → Named → Title
+keyTitle g l (Name key n) = Key g (take n l)
+keyTitle g l (NoName n) = Nameless
+
+-- a test of titles that only a key's passes asks for the key that the line names
+pub title-named : (p : Title → Bool) → p Nameless ≡ false → ((g : List ℕ) → p (Group g) ≡ false) → (g l : List ℕ) → isBad (readLine l) ≡ false
+    → p (titleOf g l (readLine l)) ≡ p (keyTitle g l (readName l))
+title-named p i j g l h =
+    by-test (eqb (byteAt l 0) 91)
+    (λ e. rw (header-good l e h .0, headed-name l e, i) (j g))
+    (λ e. go (readLine l) (unheaded-line l e) h)
+  where
+    go : (r : Line) → Unheaded l r → isBad r ≡ false → p (titleOf g l r) ≡ p (keyTitle g l (readName l))
+    go Blank a b = rw a
+    go Comment a b = rw a
     go (Header e) a b = absurd a
     go (Entry key name value) a b = rw a
     go (Bad n) a b = no (cc)
+
+-- it has a key's title if its name is the key
+pub key-title : (g h k l : List ℕ) → isBad (readLine l) ≡ false → sameTitle (Key h k) (titleOf g l (readLine l)) ≡ (same h g && namedAs k l (readName l))
+unfolding sameTitle
+key-title g h k l b = title-named (sameTitle (Key h k)) refl (λ g. refl) g l b ∙ go (readName l)
+  where
+    go : (m : Named) → sameTitle (Key h k) (keyTitle g l m) ≡ (same h g && namedAs k l m)
+    go (Name key n) = refl
+    go (NoName n) = sym (and-false (same h g))
 
 -- ---- a name at the front
 

@@ -7,7 +7,7 @@ use mathlib.Core.List.{List, [], _∷_, _++_}
 use Rattle.base.specs.Choice.{maybe}
 use Rattle.base.specs.Lists.{same, any}
 use Rattle.base.proofs.Tests.{and-both, same-refl, same-true, same-sym}
-use Rattle.base.proofs.Search.{there-first, first-append, first-passes}
+use Rattle.base.proofs.Search.{there-first, first-append}
 use Rattle.rows.specs.Rows.{Row}
 use Rattle.rows.specs.Title.{Title, Nameless, Group, Key, title, sameTitle, seeing, titles, findRow, has}
 
@@ -86,8 +86,3 @@ has-titles rs t = there-first (λ r. sameTitle t (title r)) rs ∙ any-title t r
 pub find-append : (rs ss : List Row) (t : Title) → findRow (rs ++ ss) t ≡ maybe (findRow rs t) (findRow ss t) some
 unfolding findRow
 find-append rs ss t = first-append (λ r. sameTitle t (title r)) rs ss
-
--- the row that is found has the title
-pub found-title : (rs : List Row) (t : Title) (r : Row) → findRow rs t ≡ some r → title r ≡ t
-unfolding findRow
-found-title rs t r e = sym (sameTitle-true t (title r) (first-passes (λ r. sameTitle t (title r)) rs r e))

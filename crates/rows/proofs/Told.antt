@@ -8,7 +8,7 @@ use mathlib.Core.Option.{Option, none, some}
 use mathlib.Core.List.{List, [], _∷_, _++_, append-assoc}
 use lib.ListN.{length, take, drop, length-append, length-drop}
 use lib.Seq.{take-at, drop-at, drop-drop, drop-append-le}
-use Rattle.base.specs.Lists.{part, joined}
+use Rattle.base.specs.Lists.{part, first, joined}
 use Rattle.base.proofs.Tests.{no}
 use Rattle.base.proofs.Lists.{joined-append}
 use Rattle.line.specs.Line.{readLine}
@@ -38,9 +38,13 @@ told-nothing (some r) i = no (cc)
 
 -- ---- the row in the file
 
+pub found-by : (f : List ℕ) (p : Row → Bool) (r : Row) → first p (readRows f) ≡ some r → Found p 0 [] (rows f) r
+unfolding readRows
+found-by f p r e = found-first p (rows f) 1 0 [] r e
+
 pub found-row : (f : List ℕ) (t : Title) (r : Row) → findRow (readRows f) t ≡ some r → Found (λ r. sameTitle t (title r)) 0 [] (rows f) r
-unfolding findRow readRows
-found-row f t r e = found-first (λ r. sameTitle t (title r)) (rows f) 1 0 [] r e
+unfolding findRow
+found-row f t r e = found-by f (λ r. sameTitle t (title r)) r e
 
 module _ (f : List ℕ) {p : Row → Bool} {r : Row} (w : Found p 0 [] (rows f) r) where
   -- its line is read

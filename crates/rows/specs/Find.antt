@@ -7,9 +7,11 @@ use mathlib.Core.List.{List, [], _∷_}
 use lib.ListN.{length, take}
 use lib.Dec.{eqb}
 use Rattle.base.specs.Choice.{pick, maybe}
-use Rattle.base.specs.Lists.{same, any}
+use Rattle.base.specs.Lists.{same, part, any}
 use Rattle.line.specs.declared.Named.{Named}
 use Rattle.line.specs.declared.Named.the-variants.{Name, NoName}
+use Rattle.line.specs.declared.Line.{Line}
+use Rattle.line.specs.declared.Line.the-variants.{Blank, Comment, Header, Entry, Bad}
 use Rattle.line.specs.Line.{isBad}
 use Rattle.rows.specs.Rows.{Row, lineOf, readRows, valueStart}
 use Rattle.rows.specs.declared.Found.{Found}
@@ -36,3 +38,11 @@ toldOf o = maybe o found.Nothing (λ r. found.Row (r .line) (r .start) (r .start
 abbrev pub namedAs : List ℕ → List ℕ → Named → Bool
 namedAs key line (Name k n) = same key (take n line)
 namedAs key line (NoName n) = false
+
+-- whether a line and what follows stand in a group, if what stood before it did
+abbrev pub insideAfter : List ℕ → List ℕ → Bool → Line → Bool
+insideAfter group line inside Blank = inside
+insideAfter group line inside Comment = inside
+insideAfter group line inside (Header e) = same group (part 1 e line)
+insideAfter group line inside (Entry key name value) = inside
+insideAfter group line inside (Bad n) = inside

@@ -2,16 +2,16 @@
 use line::Line;
 use line::Named;
 ghost use mathlib.Core.Path.{_≡_};
-ghost use mathlib.Core.Bool.{true};
+ghost use mathlib.Core.Bool.{true, false};
 ghost use Prim.Native.Nat.{_+_, _≤_, _<_};
 ghost use lib.ListN.{length, take, drop};
 ghost use Rattle.base.specs.Lists as lists;
 ghost use Rattle.line.specs.Name.{byteAt, readName};
-ghost use Rattle.line.specs.Line.{readLine};
+ghost use Rattle.line.specs.Line.{readLine, isBad};
 ghost use lib.Dec.{eqb};
 ghost use Rattle.rows.specs.Rows.{readRows, valueStart};
 ghost use Rattle.rows.specs.Title as title;
-ghost use Rattle.rows.specs.Find.{noLF, lineLength, noneBad, toldOf, namedAs};
+ghost use Rattle.rows.specs.Find.{noLF, lineLength, noneBad, toldOf, namedAs, insideAfter};
 
 // A row of a file: its number, where it starts, where its line ends, where its value starts (an entry's; else the row's start).
 pub enum Found {
@@ -121,7 +121,7 @@ pub fn is_named(l: &[u8], key: &[u8]) -> bool
 }
 
 // Where an entry's value starts in its line; 0 for another line.
-fn value_start(l: &[u8]) -> usize
+pub fn value_start(l: &[u8]) -> usize
     ensures { λ r. ⌜ r ≡ valueStart (readLine (now (l .entry))) ⌝ }
 {
     match line::read_line(l) {
@@ -144,6 +144,18 @@ fn is_header(l: &[u8]) -> bool
     line::byte_at(l, 0) == b'['
 }
 
+// Whether a line that is not bad, and what follows it, stand in a group, if what stood before it did.
+pub fn is_inside(l: &[u8], group: &[u8], inside: bool) -> bool
+    requires { ⌜ isBad (readLine (now l)) ≡ false ⌝ }
+    ensures { λ r. ⌜ r ≡ insideAfter (now (group .entry)) (now (l .entry)) inside (readLine (now (l .entry))) ⌝ }
+{
+    if is_header(l) {
+        let t = l.len() - 1;
+        return same(group, &l[1..t]);
+    }
+    inside
+}
+
 // The first row of a key with its postfix in a group, in a file without bad lines.
 pub fn find_key(file: &[u8], group: &[u8], key: &[u8]) -> Found
     requires { ⌜ noneBad (now file) ≡ true ⌝ }
@@ -155,28 +167,19 @@ pub fn find_key(file: &[u8], group: &[u8], key: &[u8]) -> Found
     while p < file.len() {
         let e = line_end(file, p);
         let l = &file[p..e];
-        if is_header(l) {
-            let t = l.len() - 1;
-            inside = same(group, &l[1..t]);
-            p = e + 1;
-            n += 1;
-        } else {
-            if inside {
-                if is_named(l, key) {
-                    return Found::Row {
-                        line: n,
-                        start: p,
-                        end: e,
-                        value: p + value_start(l),
-                    };
-                }
-                p = e + 1;
-                n += 1;
-            } else {
-                p = e + 1;
-                n += 1;
+        inside = is_inside(l, group, inside);
+        if inside {
+            if is_named(l, key) {
+                return Found::Row {
+                    line: n,
+                    start: p,
+                    end: e,
+                    value: p + value_start(l),
+                };
             }
         }
+        p = e + 1;
+        n += 1;
     }
     Found::Nothing
 }

@@ -113,8 +113,8 @@ pub struct Wanted {
 
 #[derive(Args)]
 pub struct Locale {
-    /// The value that suits the locale L best, as de_AT.UTF-8; auto: the locales of LANGUAGE, LC_ALL, LC_MESSAGES or LANG, the
-    /// first that is set
+    /// The value that suits the locale L best, as de_AT.UTF-8 (encodings do not count); auto: the locales of LANGUAGE, LC_ALL,
+    /// LC_MESSAGES or LANG, the first that is set
     #[arg(long, value_name = "L")]
     pub locale: Option<OsString>,
 }
@@ -165,7 +165,7 @@ pub struct Editing {
     #[arg(long)]
     pub discard_journal: bool,
     /// Warns of nothing: neither of a file that is no longer complete, nor of an Exec that can no longer be expanded, nor of a
-    /// locale that is never read, nor of a person without a name
+    /// key that its own locale does not read, nor of a person without a name
     #[arg(long)]
     pub no_warn: bool,
     #[command(flatten)]

@@ -298,7 +298,7 @@ pub struct Accepted<'a> {
 }
 
 impl Accepted<'_> {
-    /// Warns of what their user will hardly want, of each kind once.
+    /// Warns of what their user will hardly want.
     pub fn warn(&self, persons: &Persons) {
         persons.warn_of_nameless(self.person, self.file);
         let edits = match self.keys.len() {
@@ -306,13 +306,28 @@ impl Accepted<'_> {
             _ => "these edits",
         };
         warn_of_loss(edits, self.file, &[self.before], self.after);
-        let is_set = |group, key| kveldrim::lookup(self.after, group, key).is_ok();
-        let keys = self.keys.iter();
-        let unread = keys.filter(|(group, key)| is_unread(key) && is_set(group, key));
-        let unread: BTreeSet<&[u8]> = unread.map(|(_, key)| *key).collect();
-        if !unread.is_empty() {
-            Trouble::unread(self.file, &Vec::from_iter(unread)).tell();
+        self.warn_of_unread();
+    }
+
+    /// Warns of keys that were set and that the locales in their postfixes do not read, in the order of the lines that these read
+    /// instead. Of very many the rest is counted.
+    fn warn_of_unread(&self) {
+        const MOST: usize = 10;
+        let keys: BTreeSet<(&[u8], &[u8])> = self.keys.iter().copied().collect();
+        let unread = keys.into_iter().filter_map(|(group, key)| {
+            let read = locale::read_instead(self.after, group, key)?;
+            Some((read.start, key))
+        });
+        let unread: BTreeSet<(usize, &[u8])> = unread.collect();
+        for (start, key) in unread.iter().take(MOST) {
+            Trouble::unread(self.file, self.after, *start, key).tell();
         }
+        let words = match unread.len().saturating_sub(MOST) {
+            0 => return,
+            1 => "1 more key is not read by its own locale".into(),
+            rest => format!("{rest} more keys are not read by their own locales"),
+        };
+        Trouble::warning_of(self.file, words).tell();
     }
 }
 
@@ -331,15 +346,6 @@ pub fn warn_of_loss(acts: &str, file: &OsStr, before: &[&[u8]], after: &[u8]) {
     };
     warn(&incomplete, "the file is no longer complete");
     warn(&unexpanded, "Exec can no longer be expanded");
-}
-
-/// Whether a key has a postfix that no `get --locale` chooses.
-fn is_unread(key: &[u8]) -> bool {
-    let postfix = key.strip_suffix(b"]").and_then(|key| {
-        let at = key.iter().position(|byte| *byte == b'[')?;
-        Some(&key[at + 1..])
-    });
-    postfix.is_some_and(locale::is_never_chosen)
 }
 
 pub fn log(log: &Log) -> ExitCode {

@@ -1,4 +1,4 @@
-//! Which locales are asked for: one by its name, or those of the environment.
+//! Which locales are asked for, one by its name or those of the environment, and which value they read.
 
 use std::env;
 use std::ffi::{OsStr, OsString};
@@ -7,6 +7,7 @@ use std::os::unix::ffi::{OsStrExt, OsStringExt};
 
 use kveldrim::{Refusal, DESKTOP_ENTRY};
 
+use crate::faults;
 use crate::report::{shown, warn};
 
 /// The word that means the locales of the environment.
@@ -82,17 +83,26 @@ pub fn of_name(file: &[u8], locales: &[Vec<u8>]) -> Vec<u8> {
     own.or(locales.first()).cloned().unwrap_or_default()
 }
 
-/// Whether a locale means the plain key.
+/// Whether a locale means the plain key: not even a postfix that is just this locale is read.
 fn is_plain(locale: &[u8]) -> bool {
-    let mut parts = locale.splitn(2, |byte| *byte == b'.');
-    let name = parts.next().unwrap_or_default();
-    let rest = parts.next().unwrap_or_default();
-    matches!(name, b"" | b"C" | b"POSIX") && !rest.contains(&b'@')
+    let key = [b"A[", locale, b"]"].concat();
+    let file = [b"[Desktop Entry]\nA=\n", &key[..], b"=\n"].concat();
+    locale.is_empty() || read_instead(&file, DESKTOP_ENTRY, &key).is_some()
 }
 
-/// Whether `get --locale` never takes a postfix that is this: it has an encoding, or means the plain key.
-pub fn is_never_chosen(postfix: &[u8]) -> bool {
-    postfix.contains(&b'.') || is_plain(postfix)
+/// Where the value stands that the locale in a key's postfix reads instead of that key's own; none if it reads that.
+pub fn read_instead(file: &[u8], group: &[u8], key: &[u8]) -> Option<Range<usize>> {
+    let own = kveldrim::lookup_ends(file, group, key).ok()?;
+    let (plain, locale) = parts(key)?;
+    let chosen = kveldrim::choose_ends(file, group, plain, locale).ok()?;
+    (chosen != own).then_some(chosen)
+}
+
+/// A key without its postfix, and the locale in that; none if it has no postfix.
+pub fn parts(key: &[u8]) -> Option<(&[u8], &[u8])> {
+    let plain = faults::plain(key)?;
+    let locale = key[plain.len()..].strip_prefix(b"[")?.strip_suffix(b"]")?;
+    Some((plain, locale))
 }
 
 #[cfg(test)]
@@ -132,7 +142,7 @@ mod tests {
         for plain in ["", "C", "POSIX", "C.UTF-8", "POSIX.x"] {
             assert!(is_plain(plain.as_bytes()), "{plain}");
         }
-        for other in ["c", "C_DE", "C@x", "C.UTF-8@x", "de"] {
+        for other in ["c", "C_DE", "C@x", "C.UTF-8@x", "de", "de.UTF-8"] {
             assert!(!is_plain(other.as_bytes()), "{other}");
         }
     }

@@ -3,6 +3,7 @@
 
 use std::ffi::{OsStr, OsString};
 use std::io::{self, IsTerminal, Write};
+use std::ops::Range;
 use std::os::unix::ffi::OsStrExt;
 use std::path::Path;
 use std::process::ExitCode;
@@ -15,6 +16,7 @@ use crate::excerpt::excerpt;
 use crate::expand::quoted;
 use crate::faults::{self, Fault};
 use crate::json::text;
+use crate::locale;
 
 /// A message, the exit status that goes with it, and what a terminal is shown besides.
 pub struct Trouble {
@@ -231,17 +233,20 @@ impl Trouble {
         Trouble::new(file, words, UNUSABLE).at_line(file, line)
     }
 
-    /// Keys were set that the choice by a locale never takes.
-    pub fn unread(file: &OsStr, keys: &[&[u8]]) -> Trouble {
-        let (which, whose) = match keys.len() {
-            1 => ("this key", "its locale"),
-            _ => ("these keys", "each locale"),
+    /// A key was set, but the locale in its postfix reads another key's value, which starts at this offset in the file.
+    pub fn unread(file: &OsStr, bytes: &[u8], offset: usize, key: &[u8]) -> Trouble {
+        let (_, line) = line_at(bytes, offset);
+        let (read, _) = faults::entry(&bytes[line]).unwrap_or_default();
+        let (_, locale) = locale::parts(key).unwrap_or_default();
+        let (plain, earlier, way_out) = match faults::plain(read) {
+            None => ("the plain ", "", ""),
+            Some(_) => ("", "earlier ", ", or remove it"),
         };
+        let [key, read, locale] = [key, read, locale].map(faults::named);
         let words = format!(
-            ": `get --locale` will not read {which}: {whose} has an encoding, or is C or POSIX"
+            "the locale {locale} reads {plain}{read} in this {earlier}line, not {key}; set {read} instead{way_out}"
         );
-        let keys: Vec<Vec<u8>> = keys.iter().map(|key| escaped(key)).collect();
-        Trouble::warning_of(file, [keys.join(&b", "[..]), words.into_bytes()].concat())
+        Trouble::at(file, bytes, offset, &words).warned()
     }
 
     pub fn refused(file: &OsStr, words: &str) -> Trouble {
@@ -306,17 +311,12 @@ impl Trouble {
 
     /// Something wrong at an offset in the file.
     pub fn at(file: &OsStr, bytes: &[u8], offset: usize, words: &str) -> Trouble {
-        let before = &bytes[..offset];
-        let start = before.iter().rposition(|byte| *byte == b'\n');
-        let start = start.map_or(0, |at| at + 1);
-        let line = before.iter().filter(|byte| **byte == b'\n').count() + 1;
-        let byte = offset - start;
-        let end = bytes[start..].iter().position(|byte| *byte == b'\n');
-        let end = end.map_or(bytes.len(), |length| start + length);
+        let (number, line) = line_at(bytes, offset);
+        let byte = offset - line.start;
         Trouble {
-            line: Some(line),
+            line: Some(number),
             byte: Some(byte + 1),
-            excerpt: excerpt(&bytes[start..end], byte),
+            excerpt: excerpt(&bytes[line], byte),
             ..Trouble::refused(file, words)
         }
     }
@@ -536,6 +536,17 @@ pub fn plain(error: &io::Error) -> String {
     };
     let after = number.split_once(')').map_or("", |(_, after)| after);
     [before, after].concat()
+}
+
+/// The number of the line that an offset in the file is in, and where that line stands, without its LF.
+fn line_at(bytes: &[u8], offset: usize) -> (usize, Range<usize>) {
+    let before = &bytes[..offset];
+    let start = before.iter().rposition(|byte| *byte == b'\n');
+    let start = start.map_or(0, |at| at + 1);
+    let number = before.iter().filter(|byte| **byte == b'\n').count() + 1;
+    let end = bytes[start..].iter().position(|byte| *byte == b'\n');
+    let end = end.map_or(bytes.len(), |length| start + length);
+    (number, start..end)
 }
 
 /// Where a line starts in the file; lines count from 1.

@@ -862,7 +862,7 @@ fn a_table_in_another_encoding() {
     assert!(told.contains(":2: N\\xfcme is no key; "), "{told}");
 }
 
-/// What their user will hardly want is told once for all.
+/// What their user will hardly want is told of all that is done.
 #[test]
 fn warnings() {
     let asks = [
@@ -880,7 +880,8 @@ fn warnings() {
         "t: warning: person 9 has no name in ",
         "t:2: warning: with these edits the file is no longer complete: ",
         "t:5:11: warning: with these edits Exec can no longer be expanded: ",
-        "t: warning: Name[C], Name[de.UTF-8]: `get --locale` will not read these keys: each locale",
+        "t:3:6: warning: the locale C reads the plain Name in this line, not Name[C]; set Name instead",
+        "t:7:16: warning: the locale de reads Name[de.UTF-8] in this earlier line, not Name[de]; set Name[de.UTF-8] instead, ",
     ];
     let refused = "TABLE:10: there is no key X in a group Desktop Entry; ";
     let folder = || {
@@ -899,9 +900,67 @@ fn warnings() {
     let dry = run(8, &["--dry-run"]);
     dry.tells_and_writes(0, &told, &dry.out);
     let one = run(1, &[]);
-    let unread = "t: warning: Name[C]: `get --locale` will not read this key: its locale has";
-    one.tells_and_writes(0, &[told[0], unread], b"1 request is done\n");
+    one.tells_and_writes(0, &[told[0], told[3]], b"1 request is done\n");
     run(0, &[]).writes(b"no request in TABLE\n");
+}
+
+/// Of keys that their locales do not read the first ten are told, each once, in the order of the lines that are read instead.
+#[test]
+fn keys_that_are_not_read() {
+    let keys: Vec<String> = (10..22)
+        .map(|number| format!("Name[fr.{number}]"))
+        .collect();
+    let run = |count: usize, words: &[&str]| {
+        let name = ["set", "", "Name[C]", "x"];
+        let french = keys[..count].iter().rev();
+        let french = french.map(|key| ["set", "", key, "x"]);
+        let asks: Vec<Ask> = french.chain([name, name]).collect();
+        Folder::new()
+            .with(b"t", T)
+            .batch(table(&asks).as_bytes(), words)
+    };
+    let first =
+        "t:3:6: warning: the locale C reads the plain Name in this line, not Name[C]; ".to_string();
+    let french = keys[..9].iter().zip(10..).map(|(key, number)| {
+        format!("t:4:10: warning: the locale fr.{number} reads Name[fr] in this earlier line, not {key}; ")
+    });
+    let told: Vec<String> = [first].into_iter().chain(french).collect();
+    let told: Vec<&str> = told.iter().map(|line| &line[..]).collect();
+    run(9, &[]).tells_and_writes(0, &told, b"11 requests are done\n");
+    for (count, more) in [
+        (10, "t: warning: 1 more key is not read by its own locale"),
+        (
+            12,
+            "t: warning: 3 more keys are not read by their own locales",
+        ),
+    ] {
+        let outcome = run(count, &[]);
+        outcome.tells_and_writes(0, &[&told[..], &[more]].concat(), &outcome.out);
+    }
+    // Objects are written as ever.
+    let silent = run(9, &["--json", "--no-warn"]);
+    assert_eq!(objects(&silent).len(), 12);
+    run(9, &["--json"]).tells_and_writes(0, &told, &silent.out);
+}
+
+/// A table may have keys that differ in an encoding alone; each is an entry of its own.
+#[test]
+fn keys_with_an_encoding() {
+    let folder = Folder::new().with(b"t", T);
+    let asks = [
+        ["set", "", "Name[de_DE.UTF-8]", "Lies!"],
+        ["set", "", "Name[fr.UTF-8]", "Lisez"],
+        ["remove", "", "Name[fr]", ""],
+    ];
+    folder
+        .batch(table(&asks).as_bytes(), &[])
+        .writes(b"3 requests are done\n");
+    folder.reads("de_DE", "Lies!");
+    folder.reads("fr_CA", "Lisez");
+    folder.does(&["undo", "t"]);
+    folder.reads("fr.UTF-8", "Lire");
+    folder.does(&["undo", "t", "2"]);
+    assert_eq!(folder.read("t"), T);
 }
 
 /// A batch is by one person.

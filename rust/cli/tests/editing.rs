@@ -71,6 +71,33 @@ fn edits_and_back() {
     assert_eq!(folder.names(), [JOURNAL, "t"]);
 }
 
+/// Keys that differ in an encoding alone are two.
+#[test]
+fn keys_with_an_encoding() {
+    let folder = folder();
+    folder.does(&["set", "t", "Name", "Lies!", "--locale=de.UTF-8"]);
+    folder.does(&["set", "t", "Name", "Lis", "--locale=fr.UTF-8", "--no-warn"]);
+    folder.does(&["set", "t", "Name", "Lisez", "--locale=fr"]);
+    let start = "[Desktop Entry]\nType=Application\nName=Lesen\n";
+    let end = "Exec=view %F\nName[de.UTF-8]=Lies!\nName[fr.UTF-8]=Lis\n";
+    folder.holds(&format!("{start}Name[fr]=Lisez\n{end}"));
+    folder.refuses(
+        1,
+        &["remove", "t", "Name", "--locale=de"],
+        "t: there is no key Name[de] in",
+    );
+    folder.does(&["remove", "t", "Name", "--locale=fr"]);
+    folder.holds(&format!("{start}{end}"));
+    folder.logs(
+        "stands: Name[de.UTF-8] in Desktop Entry: \"Lies!\" was added\n\
+        stands: Name[fr.UTF-8] in Desktop Entry: \"Lis\" was added\n\
+        stands: Name[fr] in Desktop Entry: \"Lire\" became \"Lisez\"\n\
+        stands: Name[fr] in Desktop Entry: \"Lisez\" was removed\n",
+    );
+    folder.does(&["undo", "t", "4"]);
+    assert_eq!(folder.read("t"), T);
+}
+
 #[test]
 fn groups_and_last_lines() {
     let file = "[Desktop Entry]\nName = \n# c\n[X y]\n[Z]\nA=1";

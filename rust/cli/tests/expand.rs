@@ -144,6 +144,34 @@ fn name_icon_and_location() {
         .writes(german);
 }
 
+#[test]
+fn name_and_icon_by_keys_with_an_encoding() {
+    let lines = "Name=Read it\nName[de_AT.UTF-8]=Lies!\nIcon[de.UTF-8]=buch\nIcon[de]=heft\nIcon=book\nExec=view %i %c\n";
+    let folder = with_lines(lines.as_bytes());
+    let german = b"view --icon buch 'Lies!'\n";
+    for locale in ["de_AT", "de_AT.ISO-8859-1@euro", "auto"] {
+        folder
+            .expand(&[b"--locale", locale.as_bytes(), b"t"])
+            .writes(german);
+    }
+    folder
+        .expand(&[b"--locale=de", b"t"])
+        .writes(b"view --icon buch 'Read it'\n");
+    folder
+        .run_in(
+            &[("LANGUAGE", "sv.UTF-8:de_AT:fr")],
+            &[b"expand", b"--locale=auto", b"t"],
+        )
+        .writes(german);
+    // A wrong escape is told where it stands.
+    for key in ["Name", "Icon"] {
+        let lines = format!("Name=Read it\n{key}[de.UTF-8]=\\q\nIcon=book\nExec=view %i %c\n");
+        with_lines(lines.as_bytes())
+            .expand(&[b"--locale=de", b"t"])
+            .tells(1, &["t:4:16: \\q is no escape; "]);
+    }
+}
+
 /// Each shell reads a pasted line as the arguments that it stands for.
 #[test]
 fn lines_can_be_pasted_into_dash_bash_and_zsh() {

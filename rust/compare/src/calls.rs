@@ -6,6 +6,7 @@ use kveldrim::ffi;
 use reference::Refusal;
 
 use crate::edits::{self, List};
+use crate::encodings::Encodings;
 use crate::expand::Question;
 use crate::lent::{Lent, Numbers};
 use crate::persons;
@@ -169,13 +170,20 @@ fn part(
 pub struct Asker {
     random: Random,
     pub tally: Tally,
+    /// What encodings have to do with choices, by where these are made: in `choose`, for Name and for Icon of an expansion.
+    pub encodings: BTreeMap<&'static str, Encodings>,
 }
+
+/// A call that finds a value in a file, the first of its arguments: it gets each by pointer and length, and pointers to its place
+/// and byte and the two ends.
+pub type ValueCall<'a, const N: usize> = &'a dyn Fn([(*const u8, usize); N], [*mut u64; 6]) -> u32;
 
 impl Asker {
     pub fn new(seed: u64) -> Asker {
         Asker {
             random: Random::new(seed),
             tally: Tally::new(),
+            encodings: BTreeMap::new(),
         }
     }
 
@@ -240,41 +248,74 @@ impl Asker {
         named(name, &[], outcome)
     }
 
+    /// Counts what an encoding has to do with a choice by a locale.
+    pub(crate) fn count_encodings(
+        &mut self,
+        of: &'static str,
+        file: &[u8],
+        locale: &[u8],
+        answer: Result<(usize, usize), Refusal>,
+    ) {
+        if let Ok(value) = answer {
+            let counts = self.encodings.entry(of).or_default();
+            counts.count(file, locale, value);
+        }
+    }
+
     pub fn lookup(&mut self, file: &[u8], ask: &Ask) -> Result<(), String> {
+        self.lookup_by(
+            // SAFETY: the bytes and the numbers outlive the call.
+            &|[(file, f), (group, g), (key, k)], [place, byte, from, to, ..]| unsafe {
+                ffi::kveldrim_lookup(file, f, group, g, key, k, place, byte, from, to)
+            },
+            file,
+            ask,
+        )
+    }
+
+    /// A lookup of any library, held against the reference; the bindings too.
+    pub fn lookup_by(&mut self, call: ValueCall<3>, file: &[u8], ask: &Ask) -> Result<(), String> {
         let (group, key) = (&ask.group[..], &ask.key[..]);
-        // SAFETY: the bytes and the numbers outlive the call.
         self.value_call(
             "lookup",
             [file, group, key],
-            |[(file, f), (group, g), (key, k)], [place, byte, from, to, ..]| unsafe {
-                ffi::kveldrim_lookup(file, f, group, g, key, k, place, byte, from, to)
-            },
+            call,
             reference::lookup(file, group, key),
             kveldrim::lookup(file, group, key),
         )
     }
 
     pub fn choose(&mut self, file: &[u8], ask: &Ask) -> Result<(), String> {
+        self.choose_by(
+            // SAFETY: the bytes and the numbers outlive the call.
+            &|[(file, f), (group, g), (key, k), (locale, l)], [place, byte, from, to, ..]| unsafe {
+                ffi::kveldrim_choose(file, f, group, g, key, k, locale, l, place, byte, from, to)
+            },
+            file,
+            ask,
+        )
+    }
+
+    /// A choice of any library, held against the reference; the bindings too.
+    pub fn choose_by(&mut self, call: ValueCall<4>, file: &[u8], ask: &Ask) -> Result<(), String> {
         let (group, key, locale) = (&ask.group[..], &ask.plain[..], &ask.locale[..]);
-        // SAFETY: the bytes and the numbers outlive the call.
+        let expected = reference::choose(file, group, key, locale);
+        self.count_encodings("choose", file, locale, expected);
         self.value_call(
             "choose",
             [file, group, key, locale],
-            |[(file, f), (group, g), (key, k), (locale, l)], [place, byte, from, to, ..]| unsafe {
-                ffi::kveldrim_choose(file, f, group, g, key, k, locale, l, place, byte, from, to)
-            },
-            reference::choose(file, group, key, locale),
+            call,
+            expected,
             kveldrim::choose(file, group, key, locale),
         )
     }
 
-    /// A call that finds a value in a file, the first of its arguments. It gets each argument by pointer and length, and
-    /// pointers to its place and byte and the two ends. The answers are those of the reference and of the bindings.
+    /// A call with the answers of the reference and of the bindings.
     fn value_call<const N: usize>(
         &mut self,
         name: &'static str,
         arguments: [&[u8]; N],
-        call: impl Fn([(*const u8, usize); N], [*mut u64; 6]) -> u32,
+        call: ValueCall<N>,
         expected: Result<(usize, usize), Refusal>,
         answer: Result<&[u8], kveldrim::Refusal>,
     ) -> Result<(), String> {

@@ -31,6 +31,40 @@ pub struct Question {
     pub seed: u64,
 }
 
+/// What the call is handed: file, locale, location and list by pointer and length, the run, the output and its numbers.
+pub struct Given {
+    pub inputs: [(*const u8, usize); 4],
+    pub run: u64,
+    pub out: (*mut u8, usize),
+    pub place: *mut u64,
+    pub byte: *mut u64,
+    pub written: *mut u64,
+}
+
+/// The call of the proved library.
+pub fn proved(given: &Given) -> u32 {
+    let [file, locale, location, list] = given.inputs;
+    // SAFETY: the bytes and the numbers outlive the call.
+    unsafe {
+        kveldrim_expand(
+            file.0,
+            file.1,
+            locale.0,
+            locale.1,
+            location.0,
+            location.1,
+            list.0,
+            list.1,
+            given.run,
+            given.out.0,
+            given.out.1,
+            given.place,
+            given.byte,
+            given.written,
+        )
+    }
+}
+
 type Told<A> = Result<A, Refusal>;
 
 impl Question {
@@ -67,14 +101,40 @@ impl Question {
 
     /// Asks both with outputs of several sizes, then the bindings, and tells the first difference.
     pub fn compare(&self, asker: &mut Asker) -> Result<(), String> {
-        let mut random = Random::new(self.seed);
-        self.all_sizes(asker, &mut random)
+        self.compare_by(&proved, asker)
+    }
+
+    /// As [`Question::compare`], of any library.
+    pub fn compare_by(
+        &self,
+        expander: &dyn Fn(&Given) -> u32,
+        asker: &mut Asker,
+    ) -> Result<(), String> {
+        self.count_encodings(asker);
+        self.all_sizes(expander, asker)
             .and_then(|()| self.bindings())
             .map_err(|difference| format!("{self}\n{difference}"))
     }
 
+    /// Counts the choices of Name and Icon, where the expansion has an answer and their codes stand in Exec.
+    fn count_encodings(&self, asker: &mut Asker) {
+        let (file, locale, group) = (&self.file, &self.locale, kveldrim::DESKTOP_ENTRY);
+        let (Ok(_), Ok((from, to))) = (self.records(), reference::lookup(file, group, b"Exec"))
+        else {
+            return;
+        };
+        let exec = String::from_utf8_lossy(&file[from..to]).replace("%%", "");
+        for (key, code) in [("Name", "%c"), ("Icon", "%i")] {
+            if exec.contains(code) {
+                let answer = reference::choose(file, group, key.as_bytes(), locale);
+                asker.count_encodings(key, file, locale, answer);
+            }
+        }
+    }
+
     /// One byte too few, just enough and more where there is an answer; else any size.
-    fn all_sizes(&self, asker: &mut Asker, random: &mut Random) -> Result<(), String> {
+    fn all_sizes(&self, expander: &dyn Fn(&Given) -> u32, asker: &mut Asker) -> Result<(), String> {
+        let random = &mut Random::new(self.seed);
         let sizes = match self.records() {
             Ok(records) => vec![
                 random.below(records.len()),
@@ -85,7 +145,7 @@ impl Question {
             Err(_) => vec![random.below(100)],
         };
         for size in sizes {
-            self.one_size(size, asker, random)
+            self.one_size(size, expander, asker, random)
                 .map_err(|difference| format!("with room for {size} bytes\n{difference}"))?;
         }
         Ok(())
@@ -108,36 +168,29 @@ impl Question {
     }
 
     /// The call itself, with every buffer between guards.
-    fn one_size(&self, size: usize, asker: &mut Asker, random: &mut Random) -> Result<(), String> {
+    fn one_size(
+        &self,
+        size: usize,
+        expander: &dyn Fn(&Given) -> u32,
+        asker: &mut Asker,
+        random: &mut Random,
+    ) -> Result<(), String> {
         let mut out = Lent::output(size, random);
         let mut expected_out = out.bytes().to_vec();
         let expected = self.reference(&mut expected_out);
-        let told = expected.map_or_else(|refusal| refusal.number, |_| 0);
-        *asker.tally.entry(("expand", told)).or_default() += 1;
+        asker.count("expand", &expected);
         let inputs = [&self.file, &self.locale, &self.location, &self.list];
         let lent = inputs.map(|bytes| Lent::new(bytes, random));
-        let [file, locale, location, list] = &lent;
         let mut numbers = Numbers::new();
         let [place, byte, written, ..] = numbers.pointers();
-        // SAFETY: the bytes and the numbers outlive the call.
-        let result = unsafe {
-            kveldrim_expand(
-                file.pointer(),
-                file.len(),
-                locale.pointer(),
-                locale.len(),
-                location.pointer(),
-                location.len(),
-                list.pointer(),
-                list.len(),
-                self.run,
-                out.pointer_mut(),
-                out.len(),
-                place,
-                byte,
-                written,
-            )
-        };
+        let result = expander(&Given {
+            inputs: lent.each_ref().map(|lent| (lent.pointer(), lent.len())),
+            run: self.run,
+            out: (out.pointer_mut(), out.len()),
+            place,
+            byte,
+            written,
+        });
         numbers.tell(result, &expected.map(|written| vec![written as u64]))?;
         for (lent, bytes) in lent.iter().zip(inputs) {
             lent.holds(bytes)?;
@@ -213,6 +266,13 @@ pub fn question(random: &mut Random, once: usize) -> Question {
     if random.once_in(15) {
         spoil(&mut file, random);
     }
+    of_file(file, random)
+}
+
+/// A question whose answer has Name or Icon in it.
+pub fn of_names(random: &mut Random) -> Question {
+    let execs = ["v %c %f", "v %i %u", "v %i --name=%c %f", "v %c%c %u %i %i"];
+    let file = file_of(random.pick(&execs).as_bytes(), random, pieces::SOUND);
     of_file(file, random)
 }
 
@@ -446,41 +506,54 @@ const NAMES: &[&str] = &[
     "--x=%k",
 ];
 
-/// The lines of a key, plain and localized, or none.
+/// The lines of a key, plain and localized, some of these alike but for their encoding; or none.
 fn values_of(key: &str, random: &mut Random, once: usize) -> Vec<Vec<u8>> {
     if random.once_in(8) {
         return Vec::new();
     }
-    let mut lines = Vec::new();
-    for postfix in ["", "[de]", "[fr]", "[de_AT]", "[sr@Latn]"] {
-        if !postfix.is_empty() && !random.once_in(4) {
-            continue;
+    let mut postfixes = vec![Vec::new()];
+    for locale in ["de", "fr", "de_AT", "sr@Latn", "C"] {
+        if random.once_in(2) {
+            let encodings = ["", ".UTF-8", ".x"].into_iter();
+            let some = encodings.filter(|_| random.once_in(2));
+            postfixes.extend(some.map(|encoding| {
+                let locale = pieces::with_encoding(locale.as_bytes(), encoding.as_bytes());
+                [b"[", &locale[..], b"]"].concat()
+            }));
         }
+    }
+    let mut line = |postfix: Vec<u8>| {
         let mut value = random.pick(NAMES).replace("\\$", "$").into_bytes();
         if random.once_in(once) {
             value = wrong_raw(&value, random);
         }
-        lines.push([key.as_bytes(), postfix.as_bytes(), b"=", &value, b"\n"].concat());
-    }
-    lines
+        [key.as_bytes(), &postfix, b"=", &value, b"\n"].concat()
+    };
+    postfixes.into_iter().map(&mut line).collect()
 }
 
 fn locale(random: &mut Random) -> Vec<u8> {
     match random.below(12) {
         0 => pieces::wrong_locale(random),
         1 => pieces::locale(random),
-        _ => random
-            .pick(&[
-                "",
+        2 => Vec::new(),
+        number => {
+            let locales = [
                 "de",
                 "de_AT.UTF-8",
                 "fr_FR",
                 "C",
+                "C_DE",
                 "POSIX",
                 "sr_YU@Latn",
                 "en",
-            ])
-            .into(),
+            ];
+            let locale = random.pick(&locales).as_bytes();
+            match number {
+                3..=7 => pieces::recoded(locale, random),
+                _ => locale.to_vec(),
+            }
+        }
     }
 }
 

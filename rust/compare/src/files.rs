@@ -62,11 +62,7 @@ pub fn sound(random: &mut Random, groups: usize, keys: usize) -> Vec<u8> {
             let value = fitting_value(&key, random);
             lines.push(entry(&key, None, &value, random));
             if random.once_in(3) {
-                let mut postfixes: Vec<Vec<u8>> = (0..random.within(1, 5))
-                    .map(|_| pieces::locale(random))
-                    .collect();
-                once_each(&mut postfixes);
-                for postfix in postfixes {
+                for postfix in postfixes(random.within(1, 5), random) {
                     let value = pieces::value(random, pieces::SOUND);
                     lines.push(entry(&key, Some(&postfix), &value, random));
                 }
@@ -84,6 +80,20 @@ pub fn sound(random: &mut Random, groups: usize, keys: usize) -> Vec<u8> {
         file.pop();
     }
     file
+}
+
+/// So many postfixes, or fewer, each once; many differ from an earlier one by their encoding alone.
+fn postfixes(most: usize, random: &mut Random) -> Vec<Vec<u8>> {
+    let mut postfixes: Vec<Vec<u8>> = Vec::new();
+    for number in 0..most {
+        let postfix = match number > 0 && random.once_in(2) {
+            true => pieces::recoded(&postfixes[random.below(number)], random),
+            false => pieces::locale(random),
+        };
+        postfixes.push(postfix);
+    }
+    once_each(&mut postfixes);
+    postfixes
 }
 
 /// A value that completeness accepts for the key, mostly.
@@ -240,10 +250,7 @@ pub fn nearly_complete(random: &mut Random) -> Vec<u8> {
 
 /// A file with the key Name in many languages.
 pub fn many_languages(random: &mut Random) -> Vec<u8> {
-    let mut postfixes: Vec<Vec<u8>> = (0..random.within(0, 12))
-        .map(|_| pieces::locale(random))
-        .collect();
-    once_each(&mut postfixes);
+    let postfixes = postfixes(random.within(0, 12), random);
     let mut lines = vec![entry(
         b"Name",
         None,
@@ -397,7 +404,7 @@ pub fn near_bound(random: &mut Random) -> Vec<u8> {
 
 /// A file and questions with a name, key or part of a locale that is very long; near the bound, or far over it.
 pub fn long_names(random: &mut Random) -> Case {
-    let mut lengths = [(); 5].map(|()| random.within(1, 4));
+    let mut lengths = [(); 6].map(|()| random.within(1, 4));
     for _ in 0..random.within(1, 2) {
         let long = match random.below(5) {
             0 => random.within(200, 300),
@@ -406,39 +413,48 @@ pub fn long_names(random: &mut Random) -> Case {
             3 => random.within(32_600, 32_780),
             _ => random.within(32_780, 70_000),
         };
-        lengths[random.below(5)] = long;
+        lengths[random.below(6)] = long;
     }
-    let [group, key, lang, country, modifier] = lengths.map(|length| {
+    let [group, key, lang, country, encoding, modifier] = lengths.map(|length| {
         let first = random.below(KEY_BYTES.len());
         let bytes = KEY_BYTES.iter().cycle().skip(first);
         bytes.take(length).copied().collect::<Vec<u8>>()
     });
-    let country = match random.below(3) {
-        0 => Vec::new(),
-        _ => [b"_", &country[..]].concat(),
-    };
-    let modifier = match random.below(3) {
-        0 => Vec::new(),
-        _ => [b"@", &modifier[..]].concat(),
-    };
-    let mut file = [HEADER, b"[", &group, b"]\n", &key, b"=plain\n"].concat();
-    let postfixes = [
-        [&lang[..], &country, &modifier].concat(),
-        [&lang[..], &country].concat(),
-        [&lang[..], &modifier].concat(),
+    let [country, modifier] =
+        [(b"_", country), (b"@", modifier)].map(|(mark, part)| match random.below(3) {
+            0 => Vec::new(),
+            _ => [mark, &part[..]].concat(),
+        });
+    let encodings = [
+        Vec::new(),
+        b".UTF-8".to_vec(),
+        [b".", &encoding[..]].concat(),
     ];
+    let mut file = [HEADER, b"[", &group, b"]\n", &key, b"=plain\n"].concat();
+    let mut postfixes = Vec::new();
+    for encoding in &encodings {
+        postfixes.extend([
+            [&lang[..], &country, encoding, &modifier].concat(),
+            [&lang[..], &country, encoding].concat(),
+            [&lang[..], encoding, &modifier].concat(),
+        ]);
+    }
+    if !random.once_in(6) {
+        once_each(&mut postfixes);
+    }
+    random.shuffle(&mut postfixes);
     for postfix in &postfixes {
-        let line = [&key[..], b"[", postfix, b"]=value\n"].concat();
+        let line = [&postfixed(&key, postfix)[..], b"=value\n"].concat();
         if random.once_in(2) && file.len() + line.len() <= BOUND {
             file.extend(line);
         }
     }
-    let encoding: &[u8] = if random.once_in(2) { b".UTF-8" } else { b"" };
+    let own = &encodings[random.below(3)];
     let mut ask = Ask {
         group,
-        key: [&key[..], b"[", &postfixes[random.below(3)], b"]"].concat(),
+        key: postfixed(&key, &postfixes[random.below(postfixes.len())]),
         plain: key,
-        locale: [&lang[..], &country, encoding, &modifier].concat(),
+        locale: [&lang[..], &country, own, &modifier].concat(),
     };
     let changed = match random.below(8) {
         0 => &mut ask.group,
@@ -460,6 +476,73 @@ pub fn long_names(random: &mut Random) -> Case {
         file,
         asks: vec![ask],
     }
+}
+
+/// The file, but some of its postfixes have another encoding or stand twice, with one and with another. A new line has a new value.
+pub fn recoded(file: &[u8], random: &mut Random) -> Vec<u8> {
+    let mut lines = Vec::new();
+    for (start, end) in split_lines(file) {
+        let line = &file[start..end];
+        let mut both = vec![line.to_vec()];
+        if let Line::Entry {
+            postfix: Some((from, to)),
+            ..
+        } = read_line(line)
+        {
+            let postfix = pieces::recoded(&line[from..to], random);
+            let other = [&line[..from], &postfix, &line[to..], b"+"].concat();
+            match random.below(5) {
+                0 => both[0] = other,
+                1 => both.push(other),
+                2 => both.insert(0, other),
+                _ => {}
+            }
+        }
+        lines.extend(both);
+    }
+    [lines.join(&b'\n'), b"\n".to_vec()].concat()
+}
+
+/// An entry of a file: its group, its key, its postfix and the two ends of its value.
+pub struct Entry {
+    pub group: Vec<u8>,
+    pub key: Vec<u8>,
+    pub postfix: Option<Vec<u8>>,
+    pub value: (usize, usize),
+}
+
+impl Entry {
+    /// The key with its postfix.
+    pub fn name(&self) -> Vec<u8> {
+        match &self.postfix {
+            Some(postfix) => postfixed(&self.key, postfix),
+            None => self.key.clone(),
+        }
+    }
+}
+
+/// Every entry of a file, in order.
+pub fn entries(file: &[u8]) -> Vec<Entry> {
+    let mut group = Vec::new();
+    let mut entries = Vec::new();
+    for (start, end) in split_lines(file) {
+        let line = &file[start..end];
+        match read_line(line) {
+            Line::Header { name } => group = line[name.0..name.1].to_vec(),
+            Line::Entry {
+                key,
+                postfix,
+                value,
+            } => entries.push(Entry {
+                group: group.clone(),
+                key: line[key.0..key.1].to_vec(),
+                postfix: postfix.map(|(from, to)| line[from..to].to_vec()),
+                value: (start + value.0, start + value.1),
+            }),
+            _ => {}
+        }
+    }
+    entries
 }
 
 /// A long text or list: runs of a byte, letters and escapes, one after another.
@@ -493,6 +576,7 @@ pub fn ask(file: &[u8], random: &mut Random) -> Ask {
     let lines = split_lines(file);
     let mut group = b"Desktop Entry".to_vec();
     let mut key = pieces::key(random);
+    let mut there = None;
     if !lines.is_empty() {
         let mut at = random.below(lines.len());
         let (start, end) = lines[at];
@@ -503,6 +587,7 @@ pub fn ask(file: &[u8], random: &mut Random) -> Ask {
             ..
         } = read_line(line)
         {
+            there = postfix.map(|(from, to)| &line[from..to]);
             let postfix = postfix.filter(|_| !random.once_in(4));
             key = line[found.0..postfix.map_or(found.1, |postfix| postfix.1 + 1)].to_vec();
         }
@@ -526,26 +611,42 @@ pub fn ask(file: &[u8], random: &mut Random) -> Ask {
         4 => key.insert(0, random.byte_of(BORDERS)),
         5 => key = pieces::key(random),
         6 => group.push(random.byte_of(BORDERS)),
-        7 | 8 => key.extend([b"[", &pieces::locale(random)[..], b"]"].concat()),
+        7 => key.extend([b"[", &pieces::locale(random)[..], b"]"].concat()),
+        8 => key = postfixed(&pieces::key(random), &pieces::locale(random)),
         9 => key = random.pick(&MULLER).into(),
         10 => group = random.pick(&MULLER).into(),
         11 => key.extend([b"[", &pieces::wrong_locale(random)[..], b"]"].concat()),
+        12 | 13 => {
+            if let Some(postfix) = there {
+                key = postfixed(plain(&key), &pieces::recoded(postfix, random));
+            }
+        }
         _ => {}
     }
-    let locale = match random.below(10) {
-        0 => Vec::new(),
-        1 => pieces::wrong_locale(random),
+    let locale = match (random.below(10), there) {
+        (0, _) => Vec::new(),
+        (1, _) => pieces::wrong_locale(random),
+        (2..=5, Some(postfix)) => pieces::recoded(postfix, random),
         _ => pieces::locale(random),
     };
-    let mut plain = key.clone();
-    if !random.once_in(8) {
-        let postfix = plain.iter().position(|byte| *byte == b'[');
-        plain.truncate(postfix.unwrap_or(plain.len()));
-    }
+    let plain = match random.once_in(8) {
+        true => key.clone(),
+        false => plain(&key).to_vec(),
+    };
     Ask {
         group,
         key,
         plain,
         locale,
     }
+}
+
+fn postfixed(key: &[u8], postfix: &[u8]) -> Vec<u8> {
+    [key, b"[", postfix, b"]"].concat()
+}
+
+/// A key without its postfix.
+fn plain(key: &[u8]) -> &[u8] {
+    let postfix = key.iter().position(|byte| *byte == b'[');
+    &key[..postfix.unwrap_or(key.len())]
 }

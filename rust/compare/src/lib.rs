@@ -4,6 +4,7 @@
 pub mod batches;
 pub mod calls;
 pub mod edits;
+pub mod encodings;
 pub mod expand;
 pub mod files;
 pub mod lent;

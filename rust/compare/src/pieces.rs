@@ -165,6 +165,29 @@ pub fn locale(random: &mut Random) -> Vec<u8> {
     locale.into()
 }
 
+/// The same locale with this encoding, given with its mark or empty.
+pub fn with_encoding(locale: &[u8], encoding: &[u8]) -> Vec<u8> {
+    let mut other = reference::strip_encoding(locale);
+    let modifier = other.iter().position(|byte| *byte == b'@');
+    let end = modifier.unwrap_or(other.len());
+    other.splice(end..end, encoding.iter().copied());
+    other
+}
+
+/// The same locale with another encoding, or with none if it has one.
+pub fn recoded(locale: &[u8], random: &mut Random) -> Vec<u8> {
+    loop {
+        let encoding = match random.once_in(3) {
+            true => String::new(),
+            false => format!(".{}", random.pick(ENCODINGS)),
+        };
+        let other = with_encoding(locale, encoding.as_bytes());
+        if other != locale {
+            return other;
+        }
+    }
+}
+
 /// A locale with its marks in any order, doubled, or with an empty part.
 pub fn wrong_locale(random: &mut Random) -> Vec<u8> {
     let mut locale = Vec::new();

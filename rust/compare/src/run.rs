@@ -12,8 +12,13 @@ use crate::random::{mix, Random};
 pub type Outcomes<'a> = &'a [(&'static str, &'a [u32])];
 
 /// Compares `cases` cases that `make` makes, and panics at the first difference. Each of the outcomes must come up. Answers
-/// how many calls were made.
-pub fn run(test: &str, cases: u64, outcomes: Outcomes, make: impl Fn(&mut Random) -> Case) -> u64 {
+/// who asked and has counted, if all were asked.
+pub fn run(
+    test: &str,
+    cases: u64,
+    outcomes: Outcomes,
+    make: impl Fn(&mut Random) -> Case,
+) -> Option<Asker> {
     let mut asker = Asker::new(0);
     let are_all = each(test, cases, |seed| {
         let case = make(&mut Random::new(seed));
@@ -27,7 +32,30 @@ pub fn run(test: &str, cases: u64, outcomes: Outcomes, make: impl Fn(&mut Random
         println!("{test}: {cases} inputs, {}", words(&asker.tally));
         came_up(test, &asker.tally, outcomes);
     }
-    calls(&asker.tally)
+    are_all.then_some(asker)
+}
+
+/// As [`run`], and so many choices of each kind must have to do with encodings in the file.
+pub fn run_with_encodings(
+    test: &str,
+    cases: u64,
+    outcomes: Outcomes,
+    choices: &[(&str, u64)],
+    make: impl Fn(&mut Random) -> Case,
+) {
+    if let Some(asker) = run(test, cases, outcomes, make) {
+        have_encodings(test, &asker, choices);
+    }
+}
+
+/// Asks that so many choices of each kind, at least one kind, had to do with encodings in the file.
+pub fn have_encodings(test: &str, asker: &Asker, choices: &[(&str, u64)]) {
+    assert!(!choices.is_empty(), "{test}: no choice is named");
+    for (of, least) in choices {
+        let counts = asker.encodings.get(of).copied().unwrap_or_default();
+        println!("{test}: {of}, {counts:?}");
+        assert!(counts.least() >= *least, "{test}: {of}, {counts:?}");
+    }
 }
 
 /// Runs so many cases, each from a seed of its own, or the one alone that the environment names. Answers whether they were all.
@@ -60,7 +88,8 @@ pub fn came_up(test: &str, tally: &Tally, outcomes: Outcomes) {
     }
 }
 
-fn calls(tally: &Tally) -> u64 {
+/// How many calls were made.
+pub fn calls(tally: &Tally) -> u64 {
     tally.values().sum()
 }
 

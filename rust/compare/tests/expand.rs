@@ -1,13 +1,14 @@
 //! Generated expansions, seeded: the library and the reference must agree on every one. See `compare::run` for replaying.
 
 use compare::calls::{Asker, Case};
-use compare::expand::{large_question, question, Question};
+use compare::expand::{large_question, of_names, question, Question};
 use compare::pieces::SOUND;
-use compare::run::{came_up, run, Outcomes};
+use compare::run::{came_up, run, run_with_encodings, Outcomes};
 
 const COMMANDS: u64 = 70_000;
 const BROKEN: u64 = 110_000;
 const VERY_BROKEN: u64 = 30_000;
+const NAMES_AND_ICONS: u64 = 40_000;
 const LARGE: u64 = 1_500;
 
 const _: () = assert!(COMMANDS + BROKEN + VERY_BROKEN >= 200_000);
@@ -36,6 +37,20 @@ fn very_broken_commands() {
     run("very_broken_commands", VERY_BROKEN, outcomes, |random| {
         Case::Expand(Box::new(question(random, 3)))
     });
+}
+
+/// Name and Icon by locale, with encodings in the file.
+#[test]
+fn names_and_icons() {
+    let outcomes: Outcomes = &[("expand", &[0, 7, 8, 10, 11, 14])];
+    let choices = [("Name", 500), ("Icon", 500)];
+    run_with_encodings(
+        "names_and_icons",
+        NAMES_AND_ICONS,
+        outcomes,
+        &choices,
+        |random| Case::Expand(Box::new(of_names(random))),
+    );
 }
 
 #[test]

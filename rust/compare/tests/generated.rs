@@ -3,7 +3,7 @@
 use compare::calls::{Asker, Case};
 use compare::files;
 use compare::pieces::{self, BORDERS, UTF8_BORDERS};
-use compare::run::{came_up, run, Outcomes};
+use compare::run::{came_up, run, run_with_encodings, Outcomes};
 
 const SOUND: u64 = 60_000;
 const SPOILT: u64 = 120_000;
@@ -94,7 +94,8 @@ fn nearly_complete_files() {
 #[test]
 fn languages() {
     let outcomes: Outcomes = &[("lookup", &[0, 7, 8]), ("choose", &[0, 7, 8])];
-    run("languages", LANGUAGES, outcomes, |random| {
+    let choices = [("choose", 3_000)];
+    run_with_encodings("languages", LANGUAGES, outcomes, &choices, |random| {
         let file = files::many_languages(random);
         files::asked(file, 4, random)
     });
@@ -146,7 +147,14 @@ fn long_names() {
         ("lookup", &[0, 7, 8]),
         ("choose", &[0, 7, 8]),
     ];
-    run("long_names", LONG_NAMES, outcomes, files::long_names);
+    let choices = [("choose", 100)];
+    run_with_encodings(
+        "long_names",
+        LONG_NAMES,
+        outcomes,
+        &choices,
+        files::long_names,
+    );
 }
 
 #[test]

@@ -6,7 +6,6 @@ use compare::random::Random;
 use compare::run::each;
 use compare::{files, lists, pieces};
 use kveldrim::{Document, Refusal};
-use reference::lines::{read_line, split_lines, Line};
 use reference::RecordKind;
 
 const LISTS: u64 = 60_000;
@@ -46,33 +45,27 @@ impl Name {
         Some(postfix.strip_suffix(b"]").unwrap_or(postfix).to_vec())
     }
 
-    /// Whether the choice of this key, without its postfix, asks for an entry.
+    /// Whether the choice of this key, without its postfix, asks for an entry: by A3 its postfix is stripped of the encoding.
     fn asks_for(&self, entry: &Name, locale: &[u8]) -> bool {
-        let plain = self.plain();
-        let postfixed = |postfix: &Vec<u8>| [plain, b"[", postfix, b"]"].concat();
-        let mut postfixes = reference::candidates(locale).into_iter();
-        let is_key =
-            entry.key == plain || postfixes.any(|postfix| entry.key == postfixed(&postfix));
-        self.group == entry.group && is_key
+        let is_asked = match entry.postfix() {
+            Some(postfix) => {
+                reference::candidates(locale).contains(&reference::strip_encoding(&postfix))
+            }
+            None => true,
+        };
+        self.group == entry.group && self.plain() == entry.plain() && is_asked
     }
 }
 
 /// Every entry of a file.
 fn names(file: &[u8]) -> Vec<Name> {
-    let mut group = Vec::new();
-    let mut names = Vec::new();
-    for (start, end) in split_lines(file) {
-        let line = &file[start..end];
-        match read_line(line) {
-            Line::Header { name } => group = line[name.0..name.1].to_vec(),
-            Line::Entry { key, postfix, .. } => names.push(Name {
-                group: group.clone(),
-                key: line[key.0..postfix.map_or(key.1, |postfix| postfix.1 + 1)].to_vec(),
-            }),
-            _ => {}
-        }
-    }
-    names
+    let entries = files::entries(file).into_iter();
+    entries
+        .map(|entry| Name {
+            key: entry.name(),
+            group: entry.group,
+        })
+        .collect()
 }
 
 /// A set or a remove of an entry; the text is mostly fit.
@@ -155,6 +148,7 @@ struct Counts {
     /// Choices that hand back something else than before.
     moved: u64,
     moved_by_the_plain_key: u64,
+    moved_by_an_encoding: u64,
 }
 
 /// After a set or a remove every other entry reads as before, and so does each choice that does not ask for the edited one.
@@ -191,6 +185,7 @@ fn what_is_read_after_an_edit() {
                 counts.choices += 1;
                 counts.moved += u64::from(moved);
                 counts.moved_by_the_plain_key += u64::from(moved && edited.key == name.plain());
+                counts.moved_by_an_encoding += u64::from(moved && edited.key.contains(&b'.'));
             }
         }
     });
@@ -204,12 +199,14 @@ fn what_is_read_after_an_edit() {
             choices,
             moved,
             moved_by_the_plain_key,
+            moved_by_an_encoding,
         } = counts;
         assert!(edits > 15_000 && inserts > 500 && removes > 2_000 && lookups > 100_000);
         assert!(
             choices > 300_000
                 && moved_by_the_plain_key > 1_000
                 && moved > moved_by_the_plain_key + 1_000
+                && moved_by_an_encoding > 1_000
         );
     }
 }

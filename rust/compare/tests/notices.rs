@@ -396,7 +396,7 @@ fn is_seen_in_journals(
     differs: impl Fn(&mut Asker, Case) -> bool,
 ) -> bool {
     let mut asker = Asker::new(1);
-    (1..=1_500).any(|seed| {
+    (1..=3_000).any(|seed| {
         let mut random = Random::new(seed);
         let journal = match seed % 3 {
             0 => lists::worked_journal,

@@ -4,9 +4,9 @@
 use std::path::{Path, PathBuf};
 use std::{env, fs};
 
-use compare::calls::Case;
+use compare::calls::{Asker, Case};
 use compare::random::Random;
-use compare::run::{run, Outcomes};
+use compare::run::{have_encodings, run, Outcomes};
 use compare::{expand, files, lists};
 use reference::lines::{read_line, split_lines, Line};
 
@@ -50,7 +50,8 @@ fn most(what: &str, real: &[Vec<u8>], is_so: impl Fn(&[u8]) -> bool) {
     assert!(2 * count > all, "only {count} of {all} real files {what}");
 }
 
-/// Compares cases made of real files, so many for each; one file in `spoilt` has something wrong. The outcomes must come up.
+/// Compares cases made of real files, so many for each; in one of three, postfixes have other encodings, and one in `spoilt` has
+/// something wrong. The outcomes must come up. Answers as [`run`] does.
 fn of_files(
     real: &[Vec<u8>],
     test: &str,
@@ -58,14 +59,17 @@ fn of_files(
     spoilt: usize,
     outcomes: Outcomes,
     make: impl Fn(Vec<u8>, &mut Random) -> Case,
-) {
+) -> Option<Asker> {
     run(test, real.len() as u64 * each, outcomes, |random| {
         let mut file = real[random.below(real.len())].clone();
+        if random.once_in(3) {
+            file = files::recoded(&file, random);
+        }
         if random.once_in(spoilt) {
             files::spoil(&mut file, random);
         }
         make(file, random)
-    });
+    })
 }
 
 #[test]
@@ -77,9 +81,12 @@ fn real_files_whole_and_spoilt() {
         ("choose", &[0, 2, 7, 8]),
     ];
     let test = "real_files_whole_and_spoilt";
-    of_files(&real_files(), test, 10, 2, outcomes, |file, random| {
+    let asker = of_files(&real_files(), test, 10, 2, outcomes, |file, random| {
         files::asked(file, 4, random)
     });
+    if let Some(asker) = asker {
+        have_encodings(test, &asker, &[("choose", 1)]);
+    }
 }
 
 #[test]

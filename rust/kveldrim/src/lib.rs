@@ -76,7 +76,8 @@ pub fn lookup_ends(file: &[u8], group: &[u8], key: &[u8]) -> Result<Range<usize>
     )
 }
 
-/// The raw value of a plain key that suits the locale best (`""`, `C` and `POSIX`: the plain one): 1 to 8.
+/// The raw value of a plain key that suits the locale best (`""`, `C` and `POSIX`: the plain one): 1 to 8. Encodings do not
+/// count, of the locale or of a postfix; where postfixes are equal without them, the earlier line is taken.
 pub fn choose<'a>(
     file: &'a [u8],
     group: &[u8],

@@ -87,6 +87,15 @@ fn values() {
         kveldrim::choose(T, DESKTOP_ENTRY, b"Name[fr]", b""),
         refused(7, 0)
     );
+    let encoded = b"[Desktop Entry]\nName=a\nName[de.UTF-8]=b\nName[de]=c\nExec=view %c\n";
+    for locale in [&b"de"[..], b"de.UTF-8", b"de_AT.ISO-8859-1@euro"] {
+        let chosen = kveldrim::choose(encoded, DESKTOP_ENTRY, b"Name", locale);
+        assert_eq!(chosen, Ok(&b"b"[..]));
+        let arguments = kveldrim::expand_args(encoded, locale, b"", &[""; 0], 0);
+        assert_eq!(arguments, Ok(vec![b"view".to_vec(), b"b".to_vec()]));
+    }
+    let whole = kveldrim::lookup(encoded, DESKTOP_ENTRY, b"Name[de]");
+    assert_eq!(whole, Ok(&b"c"[..]));
 }
 
 #[test]

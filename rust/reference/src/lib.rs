@@ -1,4 +1,4 @@
-//! A second, independent reading of paper 01, and of A4, A6, A9 and A10 of paper 02, in plain Rust, to compare answers with.
+//! A second, independent reading of paper 01, and of A3, A4, A6, A9 and A10 of paper 02, in plain Rust, to compare answers with.
 //! It follows the sentences of the papers one by one and does not try to be fast.
 
 #![forbid(unsafe_code)]
@@ -19,7 +19,7 @@ pub use edit::Request;
 pub use exec::{expand, runs};
 pub use file::{check, complete, lookup};
 pub use journal::{batch, forget, person, redo, remove, set, undo, Batch, State};
-pub use locale::{candidates, choose};
+pub use locale::{candidates, choose, strip_encoding};
 pub use records::{read_requests, RecordKind};
 pub use refusal::Refusal;
 pub use text::{read_list, read_text, write_text};

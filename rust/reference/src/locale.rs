@@ -1,6 +1,6 @@
-//! Paper 01, "Language, escapes, lists", the part on language; and the form of LOCALE.
+//! Paper 01, "Language, escapes, lists", the part on language; and the form of LOCALE. Paper 02, A3: keys that carry an encoding.
 
-use crate::file::{check, find_entry, find_group, read_groups};
+use crate::file::{check, find_entry, find_group, read_groups, Entry};
 use crate::lines::{is_group, is_key_byte, skip, split_key, Part};
 use crate::refusal::Refusal;
 
@@ -76,7 +76,16 @@ pub fn candidates(locale: &[u8]) -> Vec<Vec<u8>> {
     tried
 }
 
-/// Choice: 1 to 6, then 7, then 8 "exactly if the plain key is missing, or its whole group".
+/// A LOCALE without its `.`ENCODING, which ends before the `@` or with the LOCALE.
+pub fn strip_encoding(locale: &[u8]) -> Vec<u8> {
+    let first = |mark| locale.iter().position(|byte| *byte == mark);
+    let modifier = first(b'@').unwrap_or(locale.len());
+    let encoding = first(b'.').unwrap_or(modifier);
+    [&locale[..encoding], &locale[modifier..]].concat()
+}
+
+/// Choice: 1 to 6, then 7, then 8 "exactly if the plain key is missing, or its whole group". A3 on the encoding: "Strip it on
+/// both sides. Where two postfixes become equal, the earlier line wins, for every locale."
 pub fn choose(
     file: &[u8],
     group: &[u8],
@@ -91,8 +100,12 @@ pub fn choose(
     let groups = read_groups(file);
     let group = find_group(&groups, group).ok_or(Refusal::new(8))?;
     let plain = find_entry(group, key, None).ok_or(Refusal::new(8))?;
-    for postfix in candidates(locale) {
-        if let Some(entry) = find_entry(group, key, Some(&postfix)) {
+    for candidate in candidates(locale) {
+        let is_candidate = |entry: &&Entry| {
+            let stripped = entry.postfix.map(strip_encoding);
+            entry.key == key && stripped.as_ref() == Some(&candidate)
+        };
+        if let Some(entry) = group.entries.iter().find(is_candidate) {
             return Ok(entry.value);
         }
     }

@@ -1,6 +1,6 @@
 -- `put` meets its contract: what is copied to a tail stands there. Assumes nothing.
 use borrow.Author.Needs.{needs}
-use Rattle.choice.proofs.Writing.{write-tail}
+use Rattle.change.proofs.Writing.{write-tail}
 use Rattle.change.proofs.put.Statement.{statement}
 use Rattle.change.proofs.put.Tie as tie
 

@@ -1,7 +1,7 @@
 -- `put_entry` meets its contract: each piece stands right behind the last. Assumes nothing.
 use borrow.Author.Needs.{needs}
 use native.Mathlib.Omega.{arith}
-use Rattle.choice.proofs.Writing.{write-then}
+use Rattle.change.proofs.Writing.{write-then}
 use Rattle.change.proofs.Writing.{entry-length}
 use Rattle.change.proofs.put_entry.Statement.{statement}
 use Rattle.change.proofs.put_entry.Tie as tie

@@ -1,7 +1,7 @@
 -- `put_line` meets its contract: one piece stands right behind the other. Assumes nothing.
 use borrow.Author.Needs.{needs}
 use native.Mathlib.Omega.{arith}
-use Rattle.choice.proofs.Writing.{write-then}
+use Rattle.change.proofs.Writing.{write-then}
 use Rattle.change.proofs.put_line.Statement.{statement}
 use Rattle.change.proofs.put_line.Tie as tie
 

@@ -8,6 +8,11 @@ use borrow.Author.Needs.{needs}
 use Rattle.entry.proofs.choose_ends.Statement.{statement}
 use Rattle.entry.proofs.choose_ends.Tie as tie
 
+chosen-ends-requires : tie.Need-chosen-ends-requires
+chosen-ends-requires c κs =
+    let k = check-good desktopEntry (c .before .before .before .before .before .before .before .before .before .before .before .before .before .args .file .now) (sym (sym (c .before .before .before .before .before .before .before .before .check .ensures) ∙ ap pass.answered (c .before .before .before .before .before .before .enum-told .given .1))) in
+    (k .0, sym (c .before .before .before .is-plain .ensures) ∙ c .before .before .if2 .taken, sym (c .before .is-locale .ensures) ∙ c .if3 .taken)
+
 returns : tie.Need-returns
 unfolding choose
 returns c = rw (sym (c .before .before .before .before .before .before .before .before .before .check .ensures) ∙ ap pass.answered (c .before .before .before .before .before .before .before .enum-told .given .1), sym (c .before .before .before .before .before .before .is-group .ensures) ∙ c .before .before .before .before .before .if1 .taken, sym (c .before .before .before .before .is-plain .ensures) ∙ c .before .before .before .if2 .taken, sym (c .before .before .is-locale .ensures) ∙ c .before .if3 .taken) (c .chosen-ends .ensures)
@@ -38,7 +43,7 @@ choose-ends-spec =
     (λ c κs. search needs)
     (λ c κs. search needs)
     (λ c κs. search needs)
-    (λ c κs. check-good desktopEntry (c .before .before .before .before .before .before .before .before .before .before .before .before .before .args .file .now) (sym (sym (c .before .before .before .before .before .before .before .before .check .ensures) ∙ ap pass.answered (c .before .before .before .before .before .before .enum-told .given .1))))
+    chosen-ends-requires
     returns
     returns-2
     returns-3

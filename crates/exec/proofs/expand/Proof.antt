@@ -19,7 +19,7 @@ expand-group-requires c κs =
     let a = start .args in
     let g = asked-given (a .file .now) (a .locale .now) (a .location .now) (a .list .now) (sym (ap askedAs (at-count .count .given .1)) ∙ at-ask .ask .ensures) in
     let k = check-good desktopEntry (a .file .now) (g .checks) in
-    (k .0, k .1, g .reads, g .counts)
+    (k .0, k .1, g .reads, g .counts, g .locale-form)
 
 returns : tie.Need-returns
 returns c =

@@ -107,7 +107,7 @@ run-command-requires c κs =
     let a = start .args in
     let w = key-value (a .file .now) (Key (a .group .now) (ascii "Exec")) (sym (at-find-key .find-key .ensures) ∙ at-end .end .given .1) in
     let t = text-given w (rw (at-read .read .given .1) at (at-read-whole .read-whole .ensures)) in
-    (omega (arith, start .pre .1, group-short (a .file .now) (a .group .now) (a .locale .now) (a .location .now) (itemsIn (a .list .now)) (a .run) w (t .0)), group-right (a .file .now) (a .group .now) (a .locale .now) (a .location .now) (itemsIn (a .list .now)) (a .run) w (t .0) (sym (ap checkedAs (at-seen .seen .given .1)) ∙ at-check-command .check-command .ensures) .1, start .pre .0, start .pre .1, start .pre .2, start .pre .3)
+    (omega (arith, start .pre .1, group-short (a .file .now) (a .group .now) (a .locale .now) (a .location .now) (itemsIn (a .list .now)) (a .run) w (t .0)), group-right (a .file .now) (a .group .now) (a .locale .now) (a .location .now) (itemsIn (a .list .now)) (a .run) w (t .0) (sym (ap checkedAs (at-seen .seen .given .1)) ∙ at-check-command .check-command .ensures) .1, start .pre .0, start .pre .1, start .pre .2, start .pre .3, start .pre .4)
 
 returns-3 : tie.Need-returns-3
 returns-3 c =

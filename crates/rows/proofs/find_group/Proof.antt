@@ -4,13 +4,14 @@ use native.Mathlib.Omega.{arith}
 use lib.ListN.{length}
 use Prim.Native.Nat.{_-_}
 use Rattle.rows.proofs.Step.{end-le}
-use Rattle.rows.proofs.Seek.{Seek, seek-start, seek-end, seek-header, group-plain, group-other, group-hit}
+use Rattle.rows.proofs.Seek.{Seek, finding, seek-start, seek-header, title-end, group-plain, group-other, group-hit}
+use Rattle.rows.specs.Rows.{readRows}
 use Rattle.rows.specs.Title.{Group}
 use Rattle.rows.proofs.find_group.Statement.{statement}
 use Rattle.rows.proofs.find_group.Tie as tie
 
 abbrev Inv-loop : tie.InvT-loop
-Inv-loop file group p₀ n₀ p n = Seek file (Group group) p n
+Inv-loop file group p₀ n₀ p n = Seek file (finding (Group group)) (finding (Group group) (readRows file)) p n
 
 abbrev μ-loop : tie.MeasureT-loop
 μ-loop file group p₀ n₀ p n = length file - p
@@ -31,20 +32,20 @@ returns c =
     let e = c .before .before .before .before .before .before in
     let l = e .before .before in
     let b = rw (c .before .before .before .if1 .taken) at (c .before .before .before .before .is-header .ensures) in
-    group-hit (l .loop .inv) (search needs) (e .line-end .ensures) b (rw (c .if2 .taken) at (c .before .same .ensures))
+    group-hit _ (l .loop .inv) (search needs) (e .line-end .ensures) b (rw (c .if2 .taken) at (c .before .same .ensures))
 
 loop-again : tie.Need-loop-again Inv-loop μ-loop
 loop-again c =
     let e = c .before .before .before .before .before .before in
     let l = e .before .before in
     let b = rw (c .before .before .before .if1 .taken) at (c .before .before .before .before .is-header .ensures) in
-    group-other (l .loop .inv) (search needs) (e .line-end .ensures) b (rw (c .if2 .left) at (c .before .same .ensures))
+    group-other _ (l .loop .inv) (search needs) (e .line-end .ensures) b (rw (c .if2 .left) at (c .before .same .ensures))
 
 loop-again-2 : tie.Need-loop-again-2 Inv-loop μ-loop
 loop-again-2 c =
     let e = c .before .before .before in
     let l = e .before .before in
-    group-plain (l .loop .inv) (search needs) (e .line-end .ensures) (rw (c .if1 .left) at (c .before .is-header .ensures))
+    group-plain _ (l .loop .inv) (search needs) (e .line-end .ensures) (rw (c .if1 .left) at (c .before .is-header .ensures))
 
 pub find-group-spec : {M : Type 1} → statement M
 find-group-spec =
@@ -52,7 +53,7 @@ find-group-spec =
     (tie.spec
     Inv-loop
     μ-loop
-    (λ c. seek-start _ _ (c .before .before .pre))
+    (λ c. seek-start _ (finding (Group _)) (c .before .before .pre))
     (λ c κs. search needs)
     (λ c. search needs)
     (λ c. search needs)
@@ -72,4 +73,4 @@ find-group-spec =
     (λ c. search needs)
     (λ c. search needs)
     loop-again-2
-    (λ c. seek-end (c .before .loop .inv) (c .loop-test .left)))
+    (λ c. title-end _ (c .before .loop .inv) (c .loop-test .left)))

@@ -158,6 +158,12 @@ impl Folder {
         names.map(|name| (name.clone(), bytes(&name))).collect()
     }
 
+    /// This is the Name of `t` for a locale.
+    pub fn reads(&self, locale: &str, name: &str) {
+        self.words(&["get", "t", "Name", "--locale", locale])
+            .writes(format!("{name}\n").as_bytes());
+    }
+
     /// The log of `t` has these lines.
     pub fn logs(&self, lines: &str) {
         self.words(&["log", "t"]).writes(lines.as_bytes());

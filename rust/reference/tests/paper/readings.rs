@@ -1,4 +1,5 @@
-//! The readings of the rules (docs/DECISIONS.md), parts 1 to 7, and the place of a bad byte: each test is named by its entry.
+//! The readings of the rules (docs/DECISIONS.md), parts 1 to 7, keys that carry an encoding, and the place of a bad byte: each
+//! test is named by its entry.
 
 use crate::common::*;
 use reference::lines::{read_line, Line};
@@ -188,14 +189,6 @@ fn r2_1_c_and_posix_after_the_loss_of_encoding() {
     assert_eq!(chosen(&file, "C@x"), "C");
     assert_eq!(chosen(&file, "C.UTF-8@x"), "C");
     assert_eq!(chosen(&file, "c"), "c");
-}
-
-#[test]
-fn r2_2_postfix_with_encoding_is_never_chosen() {
-    for locale in ["de_DE.UTF-8", "de_DE", "de", "de.UTF-8"] {
-        assert_eq!(chosen(&["de_DE.UTF-8", "de.UTF-8"], locale), "plain");
-    }
-    assert_eq!(chosen(&["de_DE.UTF-8", "de_DE"], "de_DE.UTF-8"), "de_DE");
 }
 
 #[test]
@@ -921,6 +914,146 @@ fn r7_8_items_unchanged() {
         arguments(&["v", "/a b\\%u\""])
     );
     assert_eq!(expand_exec("v x%fy%%", &["$"]), arguments(&["v", "x$y%"]));
+}
+
+// A3.1
+
+#[test]
+fn a3_1_the_encoding_of_a_postfix_is_lost() {
+    let file = ["de_DE.UTF-8"];
+    for locale in ["de_DE", "de_DE.UTF-8", "de_DE.x", "de_DE@x", "de_DE.x@x"] {
+        assert_eq!(chosen(&file, locale), "de_DE.UTF-8", "{locale}");
+    }
+    for locale in ["", "de", "de.UTF-8", "de_AT.UTF-8", "de_DE-UTF-8", "de@x"] {
+        assert_eq!(chosen(&file, locale), "plain", "{locale}");
+    }
+    assert_eq!(chosen(&["de.UTF-8"], "de_DE"), "de.UTF-8");
+    assert_eq!(chosen(&["de.UTF-8"], "fr.UTF-8"), "plain");
+}
+
+#[test]
+fn a3_1_the_earlier_line_wins_for_every_locale() {
+    let encodings = ["", ".UTF-8", ".x"];
+    let asked = [
+        ("de", "de", ""),
+        ("de", "de_DE", ""),
+        ("de", "de", "@x"),
+        ("de_DE", "de_DE", ""),
+        ("de_DE", "de_DE", "@x"),
+    ];
+    for (name, locale, modifier) in asked {
+        for first in encodings {
+            for second in encodings.into_iter().filter(|second| *second != first) {
+                let file = [first, second].map(|encoding| format!("{name}{encoding}"));
+                let postfixes = [&file[0][..], &file[1]];
+                // The caller's own encoding, too, is that of the later line.
+                for own in ["", ".UTF-8", ".x", ".y"] {
+                    let locale = format!("{locale}{own}{modifier}");
+                    assert_eq!(chosen(&postfixes, &locale), file[0], "{locale} {file:?}");
+                }
+            }
+        }
+    }
+    assert_eq!(chosen(&["fr", "de.x", "de", "de.y"], "de.y"), "de.x");
+}
+
+#[test]
+fn a3_1_candidates_come_before_lines() {
+    assert_eq!(chosen(&["de.UTF-8", "de_DE.x"], "de_DE"), "de_DE.x");
+    assert_eq!(chosen(&["de", "de_DE.x"], "de_DE.UTF-8"), "de_DE.x");
+    let upwards = ["de.a", "de.a@x", "de_DE.a", "de_DE.a@x"];
+    for found in 1..=4 {
+        assert_eq!(chosen(&upwards[..found], "de_DE.b@x"), upwards[found - 1]);
+    }
+    assert_eq!(chosen(&upwards, "de_DE"), "de_DE.a");
+    assert_eq!(chosen(&upwards, "de@x"), "de.a@x");
+    assert_eq!(chosen(&upwards, "de"), "de.a");
+}
+
+#[test]
+fn a3_1_the_modifier_stays() {
+    assert_eq!(chosen(&["de.UTF-8@x"], "de@x"), "de.UTF-8@x");
+    assert_eq!(chosen(&["de.UTF-8@x"], "de_DE.y@x"), "de.UTF-8@x");
+    assert_eq!(chosen(&["de@x", "de.UTF-8@x"], "de.UTF-8@x"), "de@x");
+    assert_eq!(chosen(&["de.UTF-8@x", "de@x"], "de@x"), "de.UTF-8@x");
+    for locale in ["de", "de.UTF-8", "de.x", "de@UTF-8", "de@y"] {
+        assert_eq!(chosen(&["de.UTF-8@x"], locale), "plain", "{locale}");
+    }
+    assert_eq!(chosen(&["de.UTF-8@x", "de"], "de.UTF-8"), "de");
+    assert_eq!(chosen(&["de.UTF-8@x", "de.UTF-8@y"], "de@y"), "de.UTF-8@y");
+}
+
+#[test]
+fn a3_1_c_and_posix_in_the_file() {
+    let file = ["C.UTF-8", "C", "POSIX.x"];
+    for locale in ["", "C", "POSIX", "C.UTF-8", "POSIX.x", "C.x"] {
+        assert_eq!(chosen(&file, locale), "plain", "{locale}");
+    }
+    for locale in ["C@x", "C.x@x", "C_DE", "C_DE.UTF-8"] {
+        assert_eq!(chosen(&file, locale), "C.UTF-8", "{locale}");
+    }
+    assert_eq!(chosen(&file, "POSIX@x"), "POSIX.x");
+}
+
+#[test]
+fn a3_1_other_keys_and_groups_do_not_count() {
+    let file = with_header(
+        b"Names=\nNames[de.UTF-8]=a\nName=b\nIcon=\nIcon[de]=c\n[B]\nName=d\nName[de.UTF-8]=e\n",
+    );
+    let value = |group| choose(&file, group, b"Name", b"de").map(|(from, to)| &file[from..to]);
+    assert_eq!(value(DE), Ok(&b"b"[..]));
+    assert_eq!(value(b"B"), Ok(&b"e"[..]));
+}
+
+#[test]
+fn a3_1_repeats_lookup_set_and_remove_take_the_postfix_whole() {
+    let both = with_header(b"Name=a\nName[de.UTF-8]=b\nName[de]=c\nName[de.x]=d\n");
+    assert_eq!(check(&both), Ok(()));
+    assert_eq!(lookup(&both, DE, b"Name[de.UTF-8]"), Ok((38, 39)));
+    assert_eq!(lookup(&both, DE, b"Name[de]"), Ok((49, 50)));
+    assert_eq!(lookup(&both, DE, b"Name[de.x]"), Ok((62, 63)));
+    let twice = with_header(b"Name=a\nName[de.x]=b\nName[de]=c\nName[de.x]=d\n");
+    assert_eq!(check(&twice), refused(5, 5));
+
+    let one = with_header(b"Name=a\nName[de.UTF-8]=b\n");
+    for key in [&b"Name[de]"[..], b"Name[de.x]", b"Name[de.UTF-8@x]"] {
+        assert_eq!(lookup(&one, DE, key), refused(8, 0));
+        let mut s = state(&one, 100, 100);
+        assert_eq!(remove(&mut s, SEVEN, DE, key), refused(8, 0));
+        assert_eq!(set(&mut s, SEVEN, DE, key, b"c"), Ok(()));
+        assert_eq!(file_of(&s), [&one[..], key, b"=c\n"].concat());
+        assert_eq!(remove(&mut s, SEVEN, DE, key), Ok(()));
+        assert_eq!(file_of(&s), one);
+    }
+    let mut s = state(&both, 100, 100);
+    assert_eq!(set(&mut s, SEVEN, DE, b"Name[de]", b"e"), Ok(()));
+    let changed = with_header(b"Name=a\nName[de.UTF-8]=b\nName[de]=e\nName[de.x]=d\n");
+    assert_eq!(file_of(&s), changed);
+    assert_eq!(remove(&mut s, SEVEN, DE, b"Name[de.UTF-8]"), Ok(()));
+    assert_eq!(
+        file_of(&s),
+        with_header(b"Name=a\nName[de]=e\nName[de.x]=d\n")
+    );
+    assert_eq!(remove(&mut s, SEVEN, DE, b"Name"), refused(17, 0));
+}
+
+#[test]
+fn a3_1_name_and_icon_of_a_command() {
+    let file = with_header(
+        b"Name=a\nName[de.UTF-8]=b\nName[de]=c\nIcon=i\nIcon[de]=j\nIcon[de.UTF-8]=k\nExec=v %c %i\n",
+    );
+    for locale in [&b"de"[..], b"de.UTF-8", b"de_DE.x@y"] {
+        let told = arguments(&["v", "b", "--icon", "j"]);
+        assert_eq!(expand_file(&file, locale, b"", &[], 0), told);
+    }
+    for locale in [&b""[..], b"C.UTF-8", b"fr.UTF-8"] {
+        let told = arguments(&["v", "a", "--icon", "i"]);
+        assert_eq!(expand_file(&file, locale, b"", &[], 0), told);
+    }
+    let file = with_header(b"Name=a\nName[de.x]=b\\q\nIcon=i\nIcon[de.x]=\nExec=v %c %i\n");
+    assert_eq!(expand_file(&file, b"de", b"", &[], 0), refused(9, 1));
+    let file = with_header(b"Icon=i\nIcon[de.x]=\nExec=v %i\n");
+    assert_eq!(expand_file(&file, b"de", b"", &[], 0), arguments(&["v"]));
 }
 
 // A6.1

@@ -389,6 +389,9 @@ fn files() -> Vec<String> {
 fn values() -> Vec<String> {
     let entry = b"Desktop Entry";
     let serbian = with_header(b"Name=Foo\nName[sr_YU]=a\nName[sr@Latn]=b\nName[sr]=c\n");
+    let encoded = with_header(
+        b"Type=Application\nName=A\nName[de_DE.UTF-8]=B\nName[de_DE]=C\nName[de.UTF-8@x]=D\n",
+    );
     vec![
         looks_up(&with_header(b"Name = X\n"), entry, b"Name"),
         looks_up(&with_header(b"Name=\n"), entry, b"Name"),
@@ -405,6 +408,12 @@ fn values() -> Vec<String> {
         chooses(T, b"Name", b"de"),
         chooses(T, b"Name", b"C"),
         chooses(T, b"Name", b""),
+        chooses(&encoded, b"Name", b"de_DE"),
+        chooses(&encoded, b"Name", b"de_DE.ISO-8859-1@x"),
+        chooses(&encoded, b"Name", b"de@x"),
+        chooses(&encoded, b"Name", b"de"),
+        chooses(&encoded, b"Name", b"C.UTF-8"),
+        looks_up(&encoded, entry, b"Name[de_DE]"),
         chooses(b"", b"Name", b"_"),
         chooses(&with_header(b"Name[\n"), b"Name", b"_"),
         chooses(T, b"Name[fr]", b"fr"),

@@ -2,9 +2,16 @@
 use native.Mathlib.Omega.{arith}
 use Rattle.text.specs.Escape.{textFrom, readText}
 use Rattle.exec.proofs.Values.{chosen-within, icon-chosen, icon-unasked, read-none}
+use Rattle.base.specs.Lists.{all}
+use Rattle.text.specs.Class.{keyByte}
+use Rattle.line.specs.Form.{plainForm}
 use borrow.Author.Needs.{needs}
 use Rattle.exec.proofs.texts.icon_text.Statement.{statement}
 use Rattle.exec.proofs.texts.icon_text.Tie as tie
+
+chosen-ends-requires : tie.Need-chosen-ends-requires
+unfolding plainForm all keyByte
+chosen-ends-requires c κs = search needs
 
 returns : tie.Need-returns
 unfolding readText textFrom
@@ -44,7 +51,7 @@ icon-text-spec =
     tie.close
     (tie.spec
     (λ c. search needs)
-    (λ c κs. search needs)
+    chosen-ends-requires
     (λ c. search needs)
     (λ c. search needs)
     returns

@@ -1,9 +1,16 @@
 -- `texts::name_text` meets its contract: the ends chosen tell the value that is read, and a refusal of the choice is passed on. Assumes nothing.
 use native.Mathlib.Omega.{arith}
 use Rattle.exec.proofs.Values.{chosen-within, name-chosen, name-unasked, read-none, read-refused}
+use Rattle.base.specs.Lists.{all}
+use Rattle.text.specs.Class.{keyByte}
+use Rattle.line.specs.Form.{plainForm}
 use borrow.Author.Needs.{needs}
 use Rattle.exec.proofs.texts.name_text.Statement.{statement}
 use Rattle.exec.proofs.texts.name_text.Tie as tie
+
+chosen-ends-requires : tie.Need-chosen-ends-requires
+unfolding plainForm all keyByte
+chosen-ends-requires c κs = search needs
 
 returns : tie.Need-returns
 returns c =
@@ -45,7 +52,7 @@ name-text-spec =
     (tie.spec
     (λ c. search needs)
     (λ c. search needs)
-    (λ c κs. search needs)
+    chosen-ends-requires
     (λ c. search needs)
     (λ c. search needs)
     (λ c κs. search needs)
