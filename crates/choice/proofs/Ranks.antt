@@ -169,8 +169,3 @@ module _ (key locale : List ℕ) (plain : all keyByte key ≡ true) where
       go : (r : Named) → readName line ≡ r → 5 ≡ rankOf (allKeys key locale) line r
       go (Name k n) e = rank-other line k n e (rw (f, and-false (eqb k (length key))))
       go (NoName n) e = refl
-
-  pub line-short : (line : List ℕ) → length line < length key → 5 ≡ rankOf (allKeys key locale) line (readName line)
-  line-short line h =
-      line-other line
-      (by-test (same key (take (length key) line)) (λ t. absurd (omega (arith, ap length (same-true key (take (length key) line) t), length-take (length key) line))) (λ t. t))

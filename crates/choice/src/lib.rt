@@ -1,10 +1,12 @@
-// Choice of language: the row of a key that a locale takes, in one pass over the file.
+// Choice of language: the row of a key that a locale takes, in one pass over the file. A key's rank is its place among those that a locale asks for, the
+// best first: 0 lang_COUNTRY@MODIFIER, 1 lang_COUNTRY, 2 lang@MODIFIER, 3 lang, 4 the plain key; 5: it is none of them. Encodings do not count.
 use line::Named;
 use line::Parts;
 use rows::Found;
 ghost use mathlib.Core.Path.{_≡_};
 ghost use mathlib.Core.Bool.{true};
 ghost use mathlib.Core.List.{[], _∷_};
+ghost use lib.ListN.{length, take};
 ghost use Rattle.base.specs.Lists as lists;
 ghost use Rattle.text.specs.Class.{keyByte};
 ghost use Rattle.line.specs.Form.{plainForm, localeForm};
@@ -55,7 +57,7 @@ fn rank_part(asked: &[u8], has: &[u8]) -> usize
     4
 }
 
-// The rank of a postfix behind its `[` among those that a locale of these parts asks for, its encoding apart; 5: it is none of them.
+// The rank of a key by its postfix behind the `[`, for a locale of these parts. a and b end the countries, d and e the encodings; z is the `]`.
 fn rank_postfix(s: &[u8], locale: &[u8], p: Parts) -> usize
     requires { ⌜ step.Closed (now s) × (localeForm (now locale) ≡ true) × (p ≡ parts (now locale)) ⌝ }
     ensures { λ r. ⌜ r ≡ step.rankIn (step.allKeys [] (now (locale .entry))) (91 ∷ spec.stripped (now (s .entry))) ⌝ }
@@ -80,30 +82,24 @@ fn rank_postfix(s: &[u8], locale: &[u8], p: Parts) -> usize
     5
 }
 
-// The rank of a line's key among those that a locale of these parts asks for, encodings apart; 5: it is none of them.
+// The rank of the key of a line that begins with the plain key, for a locale of these parts.
 fn rank(l: &[u8], key: &[u8], locale: &[u8], p: Parts) -> usize
-    requires { ⌜ (lists.all keyByte (now key) ≡ true) × (localeForm (now locale) ≡ true) × (p ≡ parts (now locale)) ⌝ }
+    requires { ⌜ (lists.all keyByte (now key) ≡ true) × (localeForm (now locale) ≡ true) × (p ≡ parts (now locale))
+        × (lists.same (now key) (take (length (now key)) (now l)) ≡ true) ⌝ }
     ensures { λ r. ⌜ r ≡ step.rankOf (step.allKeys (now (key .entry)) (now (locale .entry))) (now (l .entry)) (readName (now (l .entry))) ⌝ }
 {
-    let n = key.len();
-    if l.len() < n {
-        return 5;
-    }
-    if rows::same(key, &l[..n]) {
-        return match line::read_name(l) {
-            Named::Name { key: k, name } => {
-                if k == n {
-                    if name == k {
-                        return 4;
-                    }
-                    return rank_postfix(&l[k + 1..name], locale, p);
+    match line::read_name(l) {
+        Named::Name { key: k, name } => {
+            if k == key.len() {
+                if name == k {
+                    return 4;
                 }
-                5
+                return rank_postfix(&l[k + 1..name], locale, p);
             }
-            Named::NoName(_) => 5,
-        };
+            5
+        }
+        Named::NoName(_) => 5,
     }
-    5
 }
 
 // The first row of the best rank, in a file without bad lines. A row behind it counts only where it is better.
@@ -121,15 +117,17 @@ fn find_best(file: &[u8], group: &[u8], key: &[u8], locale: &[u8], p: Parts) -> 
         let l = &file[at..e];
         inside = rows::is_inside(l, group, inside);
         if inside {
-            let r = rank(l, key, locale, p);
-            if r < best {
-                best = r;
-                found = Found::Row {
-                    line: n,
-                    start: at,
-                    end: e,
-                    value: at + rows::value_start(l),
-                };
+            if rows::begins(l, key) {
+                let r = rank(l, key, locale, p);
+                if r < best {
+                    best = r;
+                    found = Found::Row {
+                        line: n,
+                        start: at,
+                        end: e,
+                        value: at + rows::value_start(l),
+                    };
+                }
             }
         }
         if best == 0 {

@@ -145,13 +145,10 @@ not-front k l f = go (readName l) (name-within l)
     go (Name key n) h = by-test (same k (take n l)) (λ t. absurd (false≢true (sym f ∙ rw (same-length k l n (h .2) t) t))) (λ e. e)
     go (NoName n) h = refl
 
--- nor is one that is longer than the line
-pub too-long : (k l : List ℕ) → length l < length k → namedAs k l (readName l) ≡ false
-too-long k l h =
-    not-front k l
-    (by-test (same k (take (length k) l))
-    (λ t. absurd (omega (arith, ap length (same-true k (take (length k) l) t), length-take (length k) l)))
-    (λ e. e))
+-- a line that is shorter does not begin with the key
+pub too-short : (k l : List ℕ) → length l < length k → same k (take (length k) l) ≡ false
+too-short k l h =
+    by-test (same k (take (length k) l)) (λ t. absurd (omega (arith, ap length (same-true k (take (length k) l) t), length-take (length k) l))) (λ e. e)
 
 -- one that is at the front is the name if it is as long
 pub front : (k l : List ℕ) (n : ℕ) → same k (take (length k) l) ≡ true → n ≤ length l → same k (take n l) ≡ eqb n (length k)

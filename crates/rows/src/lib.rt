@@ -6,9 +6,8 @@ ghost use mathlib.Core.Bool.{true, false};
 ghost use Prim.Native.Nat.{_+_, _≤_, _<_};
 ghost use lib.ListN.{length, take, drop};
 ghost use Rattle.base.specs.Lists as lists;
-ghost use Rattle.line.specs.Name.{byteAt, readName};
+ghost use Rattle.line.specs.Name.{readName};
 ghost use Rattle.line.specs.Line.{readLine, isBad};
-ghost use lib.Dec.{eqb};
 ghost use Rattle.rows.specs.Rows.{readRows, valueStart};
 ghost use Rattle.rows.specs.Title as title;
 ghost use Rattle.rows.specs.Find.{noLF, lineLength, noneBad, toldOf, namedAs, insideAfter};
@@ -103,17 +102,24 @@ pub fn same(a: &[u8], b: &[u8]) -> bool
     true
 }
 
-// Whether a line's key with its postfix is this one. Most lines differ in their first byte.
-pub fn is_named(l: &[u8], key: &[u8]) -> bool
-    ensures { λ r. ⌜ r ≡ namedAs (now (key .entry)) (now (l .entry)) (readName (now (l .entry))) ⌝ }
+// Whether a line begins with these bytes. Most lines differ from a key in their first byte.
+pub fn begins(l: &[u8], key: &[u8]) -> bool
+    ensures { λ r. ⌜ r ≡ lists.same (now (key .entry)) (take (length (now (key .entry))) (now (l .entry))) ⌝ }
 {
-    if l.len() < key.len() {
+    let n = key.len();
+    if l.len() < n {
         return false;
     }
-    let n = key.len();
-    if same(key, &l[..n]) {
+    same(key, &l[..n])
+}
+
+// Whether a line's key with its postfix is this one.
+fn is_named(l: &[u8], key: &[u8]) -> bool
+    ensures { λ r. ⌜ r ≡ namedAs (now (key .entry)) (now (l .entry)) (readName (now (l .entry))) ⌝ }
+{
+    if begins(l, key) {
         return match line::read_name(l) {
-            Named::Name { key: _, name } => name == n,
+            Named::Name { key: _, name } => name == key.len(),
             Named::NoName(_) => false,
         };
     }
@@ -137,19 +143,12 @@ pub fn value_start(l: &[u8]) -> usize
     }
 }
 
-// Whether a line that is not bad is a header.
-fn is_header(l: &[u8]) -> bool
-    ensures { λ r. ⌜ r ≡ eqb (byteAt (now (l .entry)) 0) 91 ⌝ }
-{
-    line::byte_at(l, 0) == b'['
-}
-
 // Whether a line that is not bad, and what follows it, stand in a group, if what stood before it did.
 pub fn is_inside(l: &[u8], group: &[u8], inside: bool) -> bool
     requires { ⌜ isBad (readLine (now l)) ≡ false ⌝ }
     ensures { λ r. ⌜ r ≡ insideAfter (now (group .entry)) (now (l .entry)) inside (readLine (now (l .entry))) ⌝ }
 {
-    if is_header(l) {
+    if line::byte_at(l, 0) == b'[' {
         let t = l.len() - 1;
         return same(group, &l[1..t]);
     }
@@ -194,7 +193,7 @@ pub fn find_group(file: &[u8], group: &[u8]) -> Found
     while p < file.len() {
         let e = line_end(file, p);
         let l = &file[p..e];
-        if is_header(l) {
+        if line::byte_at(l, 0) == b'[' {
             let t = l.len() - 1;
             if same(group, &l[1..t]) {
                 return Found::Row {

@@ -1,6 +1,7 @@
 -- `find_best` meets its contract: the rows from `at` on, and the best row before them, have the answer. Assumes nothing.
 use borrow.Author.Needs.{needs}
 use native.Mathlib.Omega.{arith}
+use mathlib.Core.Path.{sym, _∙_}
 use mathlib.Core.Logic.{⊎-elim}
 use lib.ListN.{length}
 use Prim.Native.Nat.{_+_, _-_}
@@ -9,6 +10,7 @@ use Rattle.rows.proofs.Step.{end-le, length-line}
 use Rattle.rows.proofs.Lines.{value-le}
 use Rattle.rows.proofs.Seek.{seek-good}
 use Rattle.choice.specs.Step.{allKeys}
+use Rattle.choice.proofs.Ranks.{line-other}
 use Rattle.choice.proofs.Best.{Best, best-start, best-end, best-found, best-as, best-outside, best-stays, best-better}
 use Rattle.choice.proofs.find_best.Statement.{statement}
 use Rattle.choice.proofs.find_best.Tie as tie
@@ -29,9 +31,14 @@ is-inside-requires c κs =
     let e = c .before in
     seek-good (e .before .before .loop .inv .walk .seek) (search needs) (e .line-end .ensures)
 
-add-t21 : tie.Need-add-t21 Inv-loop μ-loop
-add-t21 c =
-    let e = c .before .before .before .before .before .before in
+rank-requires : tie.Need-rank-requires Inv-loop μ-loop
+rank-requires c κs =
+    let s = c .before .before .before .before .before .before .before .before .before .before .before .before in
+    (s .pre .1, s .pre .2, s .pre .3, sym (c .before .begins .ensures) ∙ c .if2 .taken)
+
+add-t22 : tie.Need-add-t22 Inv-loop μ-loop
+add-t22 c =
+    let e = c .before .before .before .before .before .before .before .before in
     let l = e .before .before in
     let f = l .before .before .before .before .before .args .file .now in
     omega (
@@ -53,12 +60,18 @@ next c =
     let i = c .before in
     let e = i .before .before in
     let l = e .before .before in
+    let s = start c in
     ⊎-elim
-    (λ w. best-as (best-better _ _ _ (l .loop .inv) (search needs) (e .line-end .ensures) (i .is-inside .ensures) (w .0 .taken) (w .1 .ensures) (w .2 .taken) (w .3 .ensures)) (w .4) (w .5))
-    (λ v. ⊎-elim
-    (λ w. best-as (best-stays _ _ _ (l .loop .inv) (search needs) (e .line-end .ensures) (i .is-inside .ensures) (w .0 .taken) (w .1 .ensures) (w .2 .left)) (w .3) (w .4))
-    (λ w. best-as (best-outside _ _ _ (l .loop .inv) (search needs) (e .line-end .ensures) (i .is-inside .ensures) (w .0 .left)) (w .1) (w .2))
-    v)
+    (λ w. best-as (best-better _ _ _ (l .loop .inv) (search needs) (e .line-end .ensures) (i .is-inside .ensures) (w .0 .taken) (w .3 .ensures) (w .4 .taken) (w .5 .ensures)) (w .6) (w .7))
+    (⊎-elim
+    (λ w. best-as (best-stays _ _ _ (l .loop .inv) (search needs) (e .line-end .ensures) (i .is-inside .ensures) (w .0 .taken) (w .3 .ensures) (w .4 .left)) (w .5) (w .6))
+    (⊎-elim
+    (λ w.
+    best-as
+    (best-stays _ _ _ (l .loop .inv) (search needs) (e .line-end .ensures) (i .is-inside .ensures) (w .0 .taken)
+    (line-other (s .args .key .now) (s .args .locale .now) (s .pre .1) _ (sym (w .1 .ensures) ∙ w .2 .left)) (l .loop .inv .most))
+    (w .3) (w .4))
+    (λ w. best-as (best-outside _ _ _ (l .loop .inv) (search needs) (e .line-end .ensures) (i .is-inside .ensures) (w .0 .left)) (w .1) (w .2))))
     (c .if1 .came)
 
 pub find-best-spec : {M : Type 1} → statement M
@@ -74,9 +87,10 @@ find-best-spec =
     part-l-end
     is-inside-requires
     (λ c κs. search needs)
+    rank-requires
     (λ c κs. search needs)
-    add-t21
-    (λ c. best-found _ _ _ (next (c .before)) (c .if3 .taken))
+    add-t22
+    (λ c. best-found _ _ _ (next (c .before)) (c .if4 .taken))
     (λ c. omega (arith, part-l-end (c .before .before .before .before)))
     (λ c. search needs)
     (λ c. search needs)

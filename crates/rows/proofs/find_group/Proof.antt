@@ -1,7 +1,9 @@
 -- `rows::find_group` meets its contract: the rows from `p` on have the answer. Assumes nothing.
 use borrow.Author.Needs.{needs}
 use native.Mathlib.Omega.{arith}
+use mathlib.Core.Path.{sym, _∙_}
 use lib.ListN.{length}
+use borrow.Author.Tests.{eq-eqb, ne-eqb}
 use Prim.Native.Nat.{_-_}
 use Rattle.rows.proofs.Step.{end-le}
 use Rattle.rows.proofs.Seek.{Seek, finding, seek-start, seek-header, title-end, group-plain, group-other, group-hit}
@@ -25,27 +27,27 @@ sub-same : tie.Need-sub-same Inv-loop μ-loop
 sub-same c =
     let e = c .before .before .before in
     let l = e .before .before in
-    omega (arith, seek-header (l .loop .inv) (search needs) (e .line-end .ensures) (rw (c .if1 .taken) at (c .before .is-header .ensures)) .1)
+    omega (arith, seek-header (l .loop .inv) (search needs) (e .line-end .ensures) (sym (eq-eqb _ _ (sym (c .before .byte-at .ensures) ∙ c .if1 .taken))) .1)
 
 returns : tie.Need-returns Inv-loop μ-loop
 returns c =
     let e = c .before .before .before .before .before .before in
     let l = e .before .before in
-    let b = rw (c .before .before .before .if1 .taken) at (c .before .before .before .before .is-header .ensures) in
+    let b = sym (eq-eqb _ _ (sym (c .before .before .before .before .byte-at .ensures) ∙ c .before .before .before .if1 .taken)) in
     group-hit _ (l .loop .inv) (search needs) (e .line-end .ensures) b (rw (c .if2 .taken) at (c .before .same .ensures))
 
 loop-again : tie.Need-loop-again Inv-loop μ-loop
 loop-again c =
     let e = c .before .before .before .before .before .before in
     let l = e .before .before in
-    let b = rw (c .before .before .before .if1 .taken) at (c .before .before .before .before .is-header .ensures) in
+    let b = sym (eq-eqb _ _ (sym (c .before .before .before .before .byte-at .ensures) ∙ c .before .before .before .if1 .taken)) in
     group-other _ (l .loop .inv) (search needs) (e .line-end .ensures) b (rw (c .if2 .left) at (c .before .same .ensures))
 
 loop-again-2 : tie.Need-loop-again-2 Inv-loop μ-loop
 loop-again-2 c =
     let e = c .before .before .before in
     let l = e .before .before in
-    group-plain _ (l .loop .inv) (search needs) (e .line-end .ensures) (rw (c .if1 .left) at (c .before .is-header .ensures))
+    group-plain _ (l .loop .inv) (search needs) (e .line-end .ensures) (sym (ne-eqb _ _ (λ z. c .if1 .left (c .before .byte-at .ensures ∙ z))))
 
 pub find-group-spec : {M : Type 1} → statement M
 find-group-spec =
