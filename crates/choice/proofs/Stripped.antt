@@ -41,7 +41,7 @@ stripped-cut k = rw (add-one (span keyByte k)) (at (span keyByte k) k)
     at (suc n) (b ∷ k) = ap (λ (s : List ℕ). b ∷ s) (at n k)
 
 -- the plain key is the same
-span-cut : (x r : List ℕ) → all keyByte x ≡ true → Stops r → span keyByte (x ++ r) ≡ length x
+pub span-cut : (x r : List ℕ) → all keyByte x ≡ true → Stops r → span keyByte (x ++ r) ≡ length x
 unfolding span all
 span-cut [] [] e h = refl
 span-cut [] (b ∷ r) e h = rw h

@@ -1,6 +1,6 @@
 -- Checking, lookup and choice together. Assumes nothing.
 use mathlib.Core.Path.{_≡_, refl, sym, ap, _∙_}
-use Prim.Native.Nat.{ℕ, suc}
+use Prim.Native.Nat.{ℕ}
 use mathlib.Core.Bool.{Bool, true, false, not, _&&_, _||_, false≢true}
 use mathlib.Core.Option.{Option, none, some}
 use mathlib.Core.List.{List, [], _∷_, _++_, append-assoc}
@@ -25,7 +25,7 @@ use Rattle.wellformed.specs.Check.{check, plainOf, plainTitle, wanted, noPlain}
 use Rattle.wellformed.specs.WellFormed.{leads, distinct, wellFormedAs, wellFormed}
 use Rattle.wellformed.proofs.Accepts.{checks}
 use Rattle.choice.specs.Locale.{candidates, postfixed, strippedKey, strippedTitle, findStripped, firstKey, keysOf, chosen}
-use Rattle.choice.proofs.Stripped.{stripped-plain, encodingOf, stripped-same, plain-found}
+use Rattle.choice.proofs.Stripped.{span-cut, stripped-plain, encodingOf, stripped-same, plain-found}
 use Rattle.choice.proofs.Chosen.{hasStripped, there-key, chosen-there}
 use Rattle.choice.proofs.Choices.{first-append}
 use Rattle.entry.specs.Lookup.{valueEnds, lookup}
@@ -81,17 +81,12 @@ stands-plain file group x w y = by (findStripped (readRows file) (Key group x)) 
 
 -- ---- the plain key of a key with a postfix
 
-span-key : (key rest : List ℕ) → all keyByte key ≡ true → span keyByte (key ++ (91 ∷ rest)) ≡ length key
-unfolding span all keyByte
-span-key [] rest e = refl
-span-key (b ∷ key) rest e = let w = and-both (keyByte b) (all keyByte key) e in rw (w .0) (ap suc (span-key key rest (w .1)))
-
 plain-postfixed : (key l : List ℕ) → plainForm key ≡ true → plainOf (postfixed key l) ≡ key
-unfolding plainOf plainForm
+unfolding plainOf plainForm keyByte
 plain-postfixed key l f =
     let k = and-both (not (eqb (length key) 0)) (all keyByte key) f .1 in
     let e : postfixed key l ≡ key ++ (91 ∷ (l ++ (93 ∷ []))) = simp append-assoc in
-    rw (e, span-key key (l ++ (93 ∷ [])) k) (take-append-seam key (91 ∷ (l ++ (93 ∷ []))))
+    rw (e, span-cut key (91 ∷ (l ++ (93 ∷ []))) k refl) (take-append-seam key (91 ∷ (l ++ (93 ∷ []))))
 
 -- ---- the laws
 

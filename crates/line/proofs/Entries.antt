@@ -1,17 +1,17 @@
 -- What the reading of an entry and of a name says, fact by fact, and back. Assumes nothing.
 use mathlib.Core.Path.{_≡_, refl, sym, ap, _∙_}
-use Prim.Native.Nat.{ℕ, suc, _+_, _≤_}
+use Prim.Native.Nat.{ℕ, _+_}
 use native.Mathlib.Omega.{arith}
 use mathlib.Core.Bool.{Bool, true, false}
 use mathlib.Core.Option.{Option, none, some}
-use mathlib.Core.List.{List, [], _∷_}
+use mathlib.Core.List.{List}
 use lib.ListN.{length, take, drop}
 use lib.Dec.{eqb}
 use Rattle.base.specs.Choice.{pick, maybe}
 use Rattle.base.specs.Lists.{span}
 use Rattle.base.proofs.Span.{span-take}
 use Rattle.base.proofs.Tests.{no}
-use Rattle.text.specs.Class.{keyByte, groupByte, spaceByte, blankByte, valueByte}
+use Rattle.text.specs.Class.{keyByte, groupByte, blankByte, valueByte}
 use Rattle.text.specs.Utf8.{textFault}
 use Rattle.text.specs.declared.Due.the-variants.{Start}
 use Rattle.line.specs.Locale.{parts, localeEnd, emptyPart}
@@ -21,7 +21,7 @@ use Rattle.line.specs.declared.Named.{Named}
 use Rattle.line.specs.declared.Named.the-variants.{Name, NoName}
 use Rattle.line.specs.declared.Line.{Line}
 use Rattle.line.specs.declared.Line.the-variants.{Blank, Comment, Header, Entry, Bad}
-use Rattle.line.proofs.Bounds.{NamedWithin, name-within}
+use Rattle.line.proofs.Bounds.{name-within}
 use Rattle.line.proofs.Cases.{signAt, valueAt}
 
 -- ---- what an entry's reading says

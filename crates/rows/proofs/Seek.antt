@@ -19,8 +19,12 @@ use Rattle.rows.specs.Title.{Title, Group, Key, sameTitle, findRow}
 use Rattle.rows.specs.Find.{lineLength, noneBad, toldOf, namedAs, insideAfter}
 use Rattle.rows.specs.declared.Found.{Found}
 use Rattle.rows.specs.declared.Found.the-variants as found
-use Rattle.rows.proofs.Step.{rowAt, groupNext, titleAt, no-row, start-le, length-line, line-at, title-at, row-step}
-use Rattle.rows.proofs.Lines.{header-good, no-group, inside-after, key-title}
+use Rattle.rows.proofs.Step.{rowAt, groupNext, titleAt, no-row, start-le, end-le, length-line, line-at, title-at, row-step}
+use Rattle.rows.proofs.Lines.{value-le, header-good, no-group, inside-after, key-title}
+
+-- the value of the row that starts at p lies in the file
+pub value-fits : (s : List ℕ) {p e v : ℕ} → p < length s → e ≡ p + lineLength (drop p s) → v ≡ valueStart (readLine (part p e s)) → p + v ≤ length s
+value-fits s {p} {e} h q i = omega (arith, end-le s h q, start-le s h q, length-line s h q, value-le (part p e s))
 
 -- what f says of the rows from p on, the n-th and those that follow, is the answer a, and none of them is bad
 pub record Seek (s : List ℕ) (f : List Row → Found) (a : Found) (p n : ℕ) : Type 0 where

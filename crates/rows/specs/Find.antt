@@ -1,6 +1,6 @@
 -- What the functions of this crate answer, by the definitions of rows. Assumes nothing.
 use Prim.Native.Nat.{ℕ, suc, _+_}
-use Prim.Native.Char.{Char, code}
+use Prim.Native.Char.{code}
 use mathlib.Core.Bool.{Bool, false, not}
 use mathlib.Core.Option.{Option}
 use mathlib.Core.List.{List, [], _∷_}

@@ -6,9 +6,8 @@ use mathlib.Core.Logic.{⊎-elim}
 use lib.ListN.{length}
 use Prim.Native.Nat.{_+_, _-_}
 use Rattle.base.specs.Lists.{part}
-use Rattle.rows.proofs.Step.{end-le, length-line}
-use Rattle.rows.proofs.Lines.{value-le}
-use Rattle.rows.proofs.Seek.{seek-good}
+use Rattle.rows.proofs.Step.{end-le}
+use Rattle.rows.proofs.Seek.{value-fits, seek-good}
 use Rattle.choice.specs.Step.{allKeys}
 use Rattle.choice.proofs.Ranks.{line-other}
 use Rattle.choice.proofs.Best.{Best, best-start, best-end, best-found, best-as, best-outside, best-stays, best-better}
@@ -40,14 +39,7 @@ add-t22 : tie.Need-add-t22 Inv-loop μ-loop
 add-t22 c =
     let e = c .before .before .before .before .before .before .before .before in
     let l = e .before .before in
-    let f = l .before .before .before .before .before .args .file .now in
-    omega (
-      arith,
-      part-l-end e,
-      length-line f {p = l .loop .at} (search needs) (e .line-end .ensures),
-      value-le (part (l .loop .at) (e .line-end .result) f),
-      c .value-start .ensures,
-    )
+    omega (arith, value-fits (l .before .before .before .before .before .args .file .now) {p = l .loop .at} (search needs) (e .line-end .ensures) (c .value-start .ensures))
 
 -- the row is better, no better, or outside
 abbrev start : tie.Joined1 Inv-loop μ-loop → tie.Start Inv-loop μ-loop

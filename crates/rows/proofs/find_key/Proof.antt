@@ -7,9 +7,8 @@ use Prim.Native.Nat.{_-_}
 use Rattle.base.specs.Lists.{part}
 use Rattle.rows.specs.Rows.{readRows}
 use Rattle.rows.specs.Title.{Key}
-use Rattle.rows.proofs.Step.{end-le, length-line}
-use Rattle.rows.proofs.Lines.{value-le}
-use Rattle.rows.proofs.Seek.{SeekIn, finding, seek-good, title-end, in-start, key-hit, key-other}
+use Rattle.rows.proofs.Step.{end-le}
+use Rattle.rows.proofs.Seek.{value-fits, SeekIn, finding, seek-good, title-end, in-start, key-hit, key-other}
 use Rattle.rows.proofs.find_key.Statement.{statement}
 use Rattle.rows.proofs.find_key.Tie as tie
 
@@ -33,14 +32,7 @@ add-t16 : tie.Need-add-t16 Inv-loop μ-loop
 add-t16 c =
     let e = c .before .before .before .before .before .before in
     let l = e .before .before in
-    let f = l .before .before .before .before .args .file .now in
-    omega (
-      arith,
-      part-l-end e,
-      length-line f {p = l .loop .p} (search needs) (e .line-end .ensures),
-      value-le (part (l .loop .p) (e .line-end .result) f),
-      c .value-start .ensures,
-    )
+    omega (arith, value-fits (l .before .before .before .before .args .file .now) {p = l .loop .p} (search needs) (e .line-end .ensures) (c .value-start .ensures))
 
 returns : tie.Need-returns Inv-loop μ-loop
 returns c =
