@@ -21,7 +21,7 @@
  * - Slices are lent for the call only. An output or a buffer overlaps no other slice, and the number pointers are not NULL,
  *   point to different numbers and into no slice. Inputs may overlap each other.
  * - No call allocates memory, keeps anything or waits; calls may run in several threads at once. 64 KiB of stack are
- *   enough for each, but kveldrim_expand takes up to 160 KiB.
+ *   enough for each, but kveldrim_expand and kveldrim_expand_action take up to 160 KiB.
  *
  * Example: a lookup
  *
@@ -52,7 +52,7 @@
  *      6  KVELDRIM_NO_PLAIN     a key has a postfix, but does not stand without one in its group   the earliest line  0
  *                               the same of a key about to be set                                  0                  0
  *      7  KVELDRIM_FORM         a group, key or locale that was asked for is not of its form       0                  0
- *      8  KVELDRIM_MISSING      no such group, key or run                                          0                  0
+ *      8  KVELDRIM_MISSING      no such group, key, action or run                                  0                  0
  *      9  KVELDRIM_ESCAPE       unknown or unfinished escape                                       offset of its      0
  *                                                                                                  backslash in the
  *                                                                                                  raw value
@@ -81,7 +81,8 @@
  *
  * Where several apply: 14 for lengths; 1; the earliest line with 2 to 5 (2 first on that line); 3 for no header; 6; 14 for
  * the journal or the list; 7; 10; 12; 8; 6 for a set; 17; 9; 15 and 16 by lowest place; 18; 11; 13. An undo or a redo asks
- * 14, 11 and 14 again after 12. A batch asks 7 and what comes behind it of one request after another.
+ * 14, 11 and 14 again after 12. A batch asks 7 and what comes behind it of one request after another. The expansion of an
+ * action asks 9 of Actions before 8.
  *
  * Edits
  *
@@ -169,12 +170,40 @@
  *            && kveldrim_undo(file, sizeof file, &file_len, journal, sizeof journal, &used, &standing, &place, &byte) == 0)
  *         done--;
  *
+ * Example: a menu of actions
+ *
+ * Each action is two records, its identifier and its label. No record is longer than the file, so two bytes of its length
+ * tell it.
+ *
+ *     static uint8_t records[KVELDRIM_FILE_BOUND];
+ *     uint64_t place, byte, written, at;
+ *     uint32_t refused = kveldrim_actions(file, file_len, (const uint8_t *) "de_DE.UTF-8", 11,
+ *                                         records, sizeof records, &place, &byte, &written);
+ *     int label = 0;
+ *     for (at = 0; refused == 0 && at < written; at += records[at] + 256 * records[at + 1]) {
+ *         fwrite(records + at + 6, 1, records[at] + 256 * records[at + 1] - 6, stdout);
+ *         putchar(label ? '\n' : '\t');
+ *         label = !label;
+ *     }
+ *
+ * Example: the program that an action starts
+ *
+ * It is the first argument. The file and the numbers are those of the example before.
+ *
+ *     static uint8_t arguments[KVELDRIM_LIST_BOUND];
+ *     refused = kveldrim_expand_action(file, file_len, (const uint8_t *) "new-window", 10, (const uint8_t *) "de", 2,
+ *                                      NULL, 0, NULL, 0, 0, arguments, sizeof arguments, &place, &byte, &written);
+ *     if (refused == 0)
+ *         fwrite(arguments + 6, 1, arguments[0] + 256 * arguments[1] - 6, stdout);
+ *     else
+ *         fprintf(stderr, "refused: %s\n", kveldrim_words(refused));
+ *
  * Forms
  *
  * A group's name is one or more of the bytes 0x20 to 0x7E without [ and ]. A key is one or more of A-Z a-z 0-9 and -.
  * A postfix is [LOCALE], right after the key. A locale is lang, then perhaps _COUNTRY, .ENCODING and @MODIFIER in this
  * order, each part one or more of A-Z a-z 0-9 and -. Names are compared byte by byte; only the choice by a locale
- * (kveldrim_choose, and Name and Icon in kveldrim_expand) leaves .ENCODING out.
+ * (kveldrim_choose, the labels of actions, and Name and Icon in an expansion) leaves .ENCODING out.
  */
 #ifndef KVELDRIM_H
 #define KVELDRIM_H
@@ -187,7 +216,7 @@ extern "C" {
 #endif
 
 /* The number of this interface: raised whenever a call is new or its signature changes. kveldrim_abi tells the library's. */
-#define KVELDRIM_ABI 4
+#define KVELDRIM_ABI 5
 
 /* The most bytes that a file may have. */
 #define KVELDRIM_FILE_BOUND 32768
@@ -466,6 +495,47 @@ uint32_t kveldrim_expand(const uint8_t *file, size_t file_len,
                          uint64_t run,
                          uint8_t *out, size_t out_len,
                          uint64_t *place, uint64_t *byte, uint64_t *written);
+
+/*
+ * Lists the actions of an application: further ways to start it. Actions of the group Desktop Entry, without postfix, is a
+ * list of identifiers, and each names a group: Desktop Action, a space and the identifier. Those are listed that have the
+ * form of a key and whose group is there and has a Name, in the order of the list, a repeated one where it first stands.
+ * The others are skipped, and without Actions none is listed.
+ *
+ * Each is written as two records of the kind 2, as kveldrim_read_list writes elements: the identifier, then its label. The
+ * label is the text of its group's Name, found as kveldrim_choose finds it and read as kveldrim_read_text reads it.
+ *
+ *     file, file_len       the whole file
+ *     locale, locale_len   the locale for the labels, as de_DE.UTF-8, or empty
+ *     out, out_len         the output; file_len bytes are always enough
+ *     written              how many bytes were written to the output
+ *
+ * Refusals, in this order: 1 to 6, 7, 9 (in Actions), 9 (in a label, by the order of the list), 11.
+ */
+uint32_t kveldrim_actions(const uint8_t *file, size_t file_len,
+                          const uint8_t *locale, size_t locale_len,
+                          uint8_t *out, size_t out_len,
+                          uint64_t *place, uint64_t *byte, uint64_t *written);
+
+/*
+ * Expands Exec of an action's group into the arguments of one run, as kveldrim_expand does for Desktop Entry. %i stands for
+ * the Icon of the action's group, nothing if that has none; %c is still the Name of Desktop Entry.
+ *
+ *     file, file_len       the whole file
+ *     action, action_len   the identifier of a listed action, else 8; any bytes are taken
+ *     locale .. written    as in kveldrim_expand
+ *
+ * Refusals, in this order: 1 to 6, 14, 7, 10, 9 (in Actions), 8 (not listed), and then as in kveldrim_expand from its 8 (no
+ * Exec) on. A wrong escape in a label is no refusal here.
+ */
+uint32_t kveldrim_expand_action(const uint8_t *file, size_t file_len,
+                                const uint8_t *action, size_t action_len,
+                                const uint8_t *locale, size_t locale_len,
+                                const uint8_t *location, size_t location_len,
+                                const uint8_t *list, size_t list_len,
+                                uint64_t run,
+                                uint8_t *out, size_t out_len,
+                                uint64_t *place, uint64_t *byte, uint64_t *written);
 
 #ifdef __cplusplus
 }

@@ -27,7 +27,7 @@ static inline const char *kveldrim_words(uint32_t number) {
     case KVELDRIM_FORM:
         return "the group, key or locale asked for is not well written";
     case KVELDRIM_MISSING:
-        return "there is no such group, key or run";
+        return "there is no such group, key, action or run";
     case KVELDRIM_ESCAPE:
         return "unknown or unfinished escape: a backslash may stand before s, n, t, r and backslash, in a list also before ;";
     case KVELDRIM_UNFIT:

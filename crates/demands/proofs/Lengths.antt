@@ -31,14 +31,15 @@ use Rattle.command.specs.declared.Form.the-variants as form
 use Rattle.command.specs.Words.{Word, wordLength, wordsAfter, words, notSpace, insideLength}
 use Rattle.command.specs.Command.{Argument, Files, Icon, Text, piecesAfter, widthOf, inside, formOf, argumentAs, argumentOf, argumentsIn, wordsFault, readCommand}
 use Rattle.exec.specs.Run.{Put, Run, runOf, pieceBytes, piecesBytes, leavesNothing, iconArguments, expanded, expandedAll}
-use Rattle.exec.specs.Expand.{fitLocation, noZero, nameText, iconText}
+use Rattle.exec.specs.Expand.{fitLocation, noZero, nameIn, nameText, iconText}
 use Rattle.exec.specs.Step.{putOf, itemsIn}
 use Rattle.exec.proofs.Spending.{bytes-cons, bytes-none}
 use Rattle.exec.proofs.Listing.{length-cons, length-one, items-length}
 use Rattle.entry.specs.Lookup.{valueEnds}
 use Rattle.entry.proofs.Lookups.{first-inside, first-stands, chosen-found}
 use Rattle.exec.proofs.Values.{read-le}
-use Rattle.demands.proofs.Expansions.{Sound, Listed, argumentsOf}
+use Rattle.demands.specs.Commands.{Expander}
+use Rattle.demands.proofs.Expansions.{Known, Sound, Listed, argumentsOf}
 
 -- every element is so
 pub data Each {A : Type 0} (P : A → Type 0) : List A → Type 0 where
@@ -176,10 +177,13 @@ module _ (file locale : List ℕ) where
   chosen-short : (group key : List ℕ) (r : Row) → chosen (readRows file) group key locale ≡ some r → {s : List ℕ} → readText (rawValue r) ≡ given s → length s ≤ length file
   chosen-short group key r i e = let w = chosen-found file group key locale r i in text-short file (w .0) r (w .1) e
 
+  pub name-in-short : (group : List ℕ) {name : List ℕ} → nameIn (readRows file) group locale ≡ given name → length name ≤ length file
+  name-in-short group {name} e = let a = some-given (chosen (readRows file) group (ascii "Name") locale) Missing (λ r. readText (rawValue r)) name e in chosen-short group (ascii "Name") (a .0) (a .1) (a .2)
+
   name-short : (asked : Bool) {name : List ℕ} → nameText (readRows file) locale asked ≡ given name → length name ≤ length file
   unfolding nameText
   name-short false {name} e = let i : [] ≡ name = given-is _ _ e in rw (← i) (omega arith)
-  name-short true {name} e = let a = some-given (chosen (readRows file) desktopEntry (ascii "Name") locale) Missing (λ r. readText (rawValue r)) name e in chosen-short desktopEntry (ascii "Name") (a .0) (a .1) (a .2)
+  name-short true {name} e = name-in-short desktopEntry e
 
   icon-short : (group : List ℕ) (asked : Bool) {icon : List ℕ} → iconText (readRows file) group locale asked ≡ given icon → length icon ≤ length file
   unfolding iconText
@@ -190,7 +194,7 @@ module _ (file locale : List ℕ) where
       go none i e = let j : [] ≡ icon = given-is _ _ e in rw (← j) (omega arith)
       go (some r) i e = chosen-short group (ascii "Icon") r i e
 
-file-short : (file : List ℕ) → checkAs desktopEntry file ≡ given tt → length file ≤ 32768
+pub file-short : (file : List ℕ) → checkAs desktopEntry file ≡ given tt → length file ≤ 32768
 unfolding checkAs
 file-short file e = leb-true (length file) fileMost (need-given _ _ (λ _. checkedRows desktopEntry (readRows file)) tt e .0)
 
@@ -220,8 +224,8 @@ item-short (one-is b p h) (suc n) = item-short h n
 -- ---- read back
 
 -- the records of an accepted expansion's arguments fit
-pub arguments-short : {file locale location list : List ℕ} (s : Sound file locale location) (items : List (List ℕ)) → Listed list items → (run : ℕ) → FitsAll (recordsOf 3 (argumentsOf s items run))
-arguments-short {file} {locale} {location} {list} s items w run =
+pub arguments-short : {by : Expander} {k : Known by} {file locale location list : List ℕ} (s : Sound k file locale location) (items : List (List ℕ)) → Listed list items → (run : ℕ) → FitsAll (recordsOf 3 (argumentsOf s items run))
+arguments-short {by} {k} {file} {locale} {location} {list} s items w run =
     let f = file-short file (s .checks) in
     let h = items-short list items (w .reads) in
     fits-all
@@ -232,7 +236,7 @@ arguments-short {file} {locale} {location} {list} s items w run =
       location = omega (arith, location-short location (s .placed));
     })
     (each-weaker (λ b l. omega arith) h)
-    (omega (arith, icon-short file locale desktopEntry _ (s .pictured)))
+    (omega (arith, icon-short file locale (by .group) _ (s .pictured)))
     (each-weaker (few-more (omega (arith, titled-short file _ (s .row) (s .found) (s .unescaped)))) (command-few (s .exec) (s .command) (s .read))))
   where
     few-more : {n : ℕ} → n ≤ 32768 → (a : Argument) → Few n a → Few 32768 a
@@ -241,7 +245,7 @@ arguments-short {file} {locale} {location} {list} s items w run =
     few-more h (Text quoted ps) f = omega arith
 
 -- the output reads back as the arguments
-pub output-back : {file locale location list : List ℕ} (s : Sound file locale location) (items : List (List ℕ)) → Listed list items → (run : ℕ) {out : List ℕ} → out ≡ listOf 3 (argumentsOf s items run)
+pub output-back : {by : Expander} {k : Known by} {file locale location list : List ℕ} (s : Sound k file locale location) (items : List (List ℕ)) → Listed list items → (run : ℕ) {out : List ℕ} → out ≡ listOf 3 (argumentsOf s items run)
     → readList 3 (length out) out ≡ some (argumentsOf s items run)
 output-back s items w run {out} e = rw e (list-back 3 (length (listOf 3 (argumentsOf s items run))) (argumentsOf s items run) (arguments-short s items w run) (omega arith))
 

@@ -12,6 +12,7 @@ pub mod Expansions
 pub mod Frames
 pub mod Lengths
 pub mod CommandLaws
+pub mod ActionLaws
 pub mod TextLaws
 pub mod BadLines
 pub mod PassedOn

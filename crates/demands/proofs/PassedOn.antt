@@ -8,17 +8,18 @@ use mathlib.Core.List.{List, [], _∷_}
 use lib.ListN.{length, take}
 use lib.Dec.{eqb, ltb}
 use Rattle.base.specs.Choice.{pick, maybe}
-use Rattle.base.specs.Lists.{ascii, any, all, first}
+use Rattle.base.specs.Lists.{ascii, same, any, all, first}
 use Rattle.base.proofs.Tests.{no}
 use Rattle.fault.specs.declared.Fault.{Fault}
 use Rattle.fault.specs.declared.Fault.the-variants.{BadLine, BadArgument, Missing, UnfitText, NoRoom, NothingLeft, JournalFull, Damaged, BadExec, BadCode, Incomplete}
-use Rattle.fault.specs.Answer.{Answer, given, refused, unless, then}
+use Rattle.fault.specs.Answer.{Answer, given, refused, _>>=_, unless, then}
 use Rattle.fault.proofs.Answers.{unless-refused}
 use Rattle.fault.proofs.Refusals.{IfRefused, if-then, if-bind, if-need, if-or, if-some, if-none, of-refusal, Not2, came-later, came-first}
 use Rattle.text.specs.Escape.{readText}
+use Rattle.text.specs.Element.{rawElements, elementsOf}
 use Rattle.line.specs.Name.{byteAt}
 use Rattle.line.specs.Form.{groupForm, keyForm, plainForm, localeForm}
-use Rattle.record.specs.Record.{readList, listMost}
+use Rattle.record.specs.Record.{readList, listMost, listOf}
 use Rattle.requests.specs.Requests.{readRequests}
 use Rattle.rows.specs.Rows.{Row, readRows, rawValue}
 use Rattle.rows.specs.Title.{Key, findRow, has, desktopEntry}
@@ -42,8 +43,9 @@ use Rattle.command.specs.Command.{takesNext, pieceOf, widthOf, isItem, pieceFau
 use Rattle.command.specs.declared.Form.{Form}
 use Rattle.command.specs.declared.Form.the-variants as form
 use Rattle.exec.specs.Run.{runs}
-use Rattle.exec.specs.Expand.{fitItem, fitLocation, askedItems, nameText, iconText, runArguments, groupArguments, expand}
-use Rattle.kveldrim.proofs.NoByte.{read-not2, forget-not2}
+use Rattle.exec.specs.Expand.{fitItem, fitLocation, askedItems, nameIn, nameText, iconText, runArguments, groupArguments, expand}
+use Rattle.actions.specs.Actions as spec
+use Rattle.kveldrim.proofs.NoByte.{read-not2, each-not2, forget-not2}
 use Rattle.demands.specs.Book.{Call, Do, Undo, Redo, Forget}
 use Rattle.demands.specs.Demand3.{withJournal, stateCall}
 use Rattle.demands.specs.Edits.{EditKeepsWellFormed}
@@ -63,13 +65,15 @@ edit-refuses s f Redo c l e = rw (l, e)
 edit-refuses s f (Forget k) c l e = absurd (false≢true c)
 
 pub check-passed-on : CheckPassedOn
-unfolding CheckPassedOn complete lookup choose askedItems expand batch listed opened
+unfolding CheckPassedOn complete lookup choose askedItems expand spec.actions spec.expandAction batch listed opened
 check-passed-on file f e =
     record {
       complete-refuses = rw e;
       lookup-refuses = λ group key. rw e;
       choose-refuses = λ group key locale. rw e;
       expand-refuses = λ locale location list run. rw e;
+      actions-refuses = λ locale. rw e;
+      expand-action-refuses = λ action locale location list run. rw e;
       edits-refuse = λ s c h l i. edit-refuses s f c h l (ap check i ∙ e);
       batch-refuses = λ s author list l i. rw (l, i, e);
     }
@@ -200,10 +204,13 @@ words-not2 program taken (w ∷ ws) =
     let t : Bool = takesFiles (argumentOf w) || taken in
     later-not2 (wordFault program taken w) (wordsFault false t ws) (word-not2 program taken w) (words-not2 false t ws)
 
+name-in-not2 : (rs : List Row) (group locale : List ℕ) → IfRefused Not2 (nameIn rs group locale)
+name-in-not2 rs group locale = if-some Not2 (chosen rs group (ascii "Name") locale) Missing _ refl (λ r. read-not2 (rawValue r))
+
 name-not2 : (rs : List Row) (locale : List ℕ) (t : Bool) → IfRefused Not2 (nameText rs locale t)
 unfolding nameText
 name-not2 rs locale false = tt
-name-not2 rs locale true = if-some Not2 (chosen rs desktopEntry (ascii "Name") locale) Missing _ refl (λ r. read-not2 (rawValue r))
+name-not2 rs locale true = name-in-not2 rs desktopEntry locale
 
 icon-not2 : (rs : List Row) (group locale : List ℕ) (t : Bool) → IfRefused Not2 (iconText rs group locale t)
 unfolding iconText
@@ -224,12 +231,51 @@ group-not2 rs group locale location items run =
     (λ _. if-bind Not2 (nameText rs locale (any (hasPiece isName) args)) _ (name-not2 rs locale (any (hasPiece isName) args))
     (λ name. if-bind Not2 (iconText rs group locale (any isIcon args)) _ (icon-not2 rs group locale (any isIcon args)) (λ icon. tt))))))
 
+asked-tells : (file locale location list : List ℕ) (line byte : ℕ) → askedItems file locale location list ≡ refused (BadLine line byte) → check file ≡ refused (BadLine line byte)
+unfolding askedItems
+asked-tells file locale location list line byte =
+    came-first (check file) _ line byte
+    (λ _. if-some Not2 (readList 2 listMost list) Damaged _ refl
+    (λ items. if-need Not2 (localeForm locale) BadArgument _ refl (λ _. if-need Not2 (all fitItem items && fitLocation location) UnfitText _ refl (λ _. tt))))
+
+-- the arguments of a group's Exec as records
+records-not2 : (rs : List Row) (group locale location : List ℕ) (items : List (List ℕ)) (run : ℕ)
+    → IfRefused Not2 (groupArguments rs group locale location items run >>= λ args. given (listOf 3 args))
+records-not2 rs group locale location items run = if-bind Not2 (groupArguments rs group locale location items run) _ (group-not2 rs group locale location items run) (λ args. tt)
+
 expand-tells : (file locale location list : List ℕ) (run line byte : ℕ) → expand file locale location list run ≡ refused (BadLine line byte) → check file ≡ refused (BadLine line byte)
-unfolding expand askedItems
+unfolding expand
 expand-tells file locale location list run line byte e =
-    came-first (check file) _ line byte (λ _. if-some Not2 (readList 2 listMost list) Damaged _ refl (λ items. if-need Not2 (localeForm locale) BadArgument _ refl (λ _. if-need Not2 (all fitItem items && fitLocation location) UnfitText _ refl (λ _. tt))))
+    asked-tells file locale location list line byte
+    (came-first (askedItems file locale location list) _ line byte (λ items. records-not2 (readRows file) desktopEntry locale location items run) e)
+
+listed-not2 : (rs : List Row) → IfRefused Not2 (spec.listed rs)
+unfolding spec.listed spec.identifiers elementsOf
+listed-not2 rs = if-then Not2 (spec.listedFrom rs []) (elementsOf (spec.actionsValue rs)) (each-not2 (rawElements (spec.actionsValue rs) false) 0)
+
+labelled-not2 : (rs : List Row) (locale : List ℕ) (ids : List (List ℕ)) → IfRefused Not2 (spec.labelled rs locale ids)
+unfolding spec.labelled
+labelled-not2 rs locale [] = tt
+labelled-not2 rs locale (id ∷ ids) =
+    if-bind Not2 (nameIn rs (spec.actionGroup id) locale) _ (name-in-not2 rs (spec.actionGroup id) locale)
+    (λ label. if-bind Not2 (spec.labelled rs locale ids) _ (labelled-not2 rs locale ids) (λ later. tt))
+
+actions-tells : (file locale : List ℕ) (line byte : ℕ) → spec.actions file locale ≡ refused (BadLine line byte) → check file ≡ refused (BadLine line byte)
+unfolding spec.actions
+actions-tells file locale line byte =
+    came-first (check file) _ line byte
+    (λ _. if-need Not2 (localeForm locale) BadArgument _ refl
+    (λ _. if-bind Not2 (spec.listed (readRows file)) _ (listed-not2 (readRows file))
+    (λ ids. if-bind Not2 (spec.labelled (readRows file) locale ids) _ (labelled-not2 (readRows file) locale ids) (λ bodies. tt))))
+
+expand-action-tells : (file action locale location list : List ℕ) (run line byte : ℕ) → spec.expandAction file action locale location list run ≡ refused (BadLine line byte)
+    → check file ≡ refused (BadLine line byte)
+unfolding spec.expandAction
+expand-action-tells file action locale location list run line byte e =
+    asked-tells file locale location list line byte
     (came-first (askedItems file locale location list) _ line byte
-    (λ items. if-bind Not2 (groupArguments (readRows file) desktopEntry locale location items run) _ (group-not2 (readRows file) desktopEntry locale location items run) (λ args. tt)) e)
+    (λ items. if-bind Not2 (spec.listed (readRows file)) _ (listed-not2 (readRows file))
+    (λ ids. if-need Not2 (any (same action) ids) Missing _ refl (λ _. records-not2 (readRows file) (spec.actionGroup action) locale location items run))) e)
 
 -- ---- so what every call tells of a bad line is so
 
@@ -241,6 +287,8 @@ bad-line-told-by-calls file =
       lookup-tells = λ group key line byte e. so line byte (came-first (check file) _ line byte (λ _. if-need Not2 (groupForm group && keyForm key) BadArgument _ refl (λ _. if-some Not2 (findRow (readRows file) (Key group key)) Missing _ refl (λ r. tt))) e);
       choose-tells = λ group key locale line byte e. so line byte (came-first (check file) _ line byte (λ _. if-need Not2 (groupForm group && plainForm key && localeForm locale) BadArgument _ refl (λ _. if-some Not2 (chosen (readRows file) group key locale) Missing _ refl (λ r. tt))) e);
       expand-tells = λ locale location list run line byte e. so line byte (expand-tells file locale location list run line byte e);
+      actions-tells = λ locale line byte e. so line byte (actions-tells file locale line byte e);
+      expand-action-tells = λ action locale location list run line byte e. so line byte (expand-action-tells file action locale location list run line byte e);
       edits-tell = λ s c i line byte e. so line byte (ap check (sym i) ∙ edit-tells s c line byte e);
       batch-tells = λ s author list i line byte e. so line byte (ap check (sym i) ∙ batch-tells s author list line byte (unless-refused (batch s author list .stopped) (BadLine line byte) e));
     }

@@ -7,21 +7,20 @@ use mathlib.Core.List.{List}
 use Rattle.base.specs.Lists.{ascii, part, all}
 use Rattle.fault.specs.declared.Fault.the-variants.{Missing}
 use Rattle.fault.specs.Answer.{given, _>>=_, some-or, then}
-use Rattle.text.specs.Class.{groupByte, keyByte}
+use Rattle.text.specs.Class.{keyByte}
 use Rattle.text.specs.Escape.{readText}
 use Rattle.text.specs.Step.{textOf}
 use Rattle.line.specs.Form.{groupForm, plainForm, localeForm}
 use Rattle.rows.specs.Rows.{Row, readRows}
-use Rattle.rows.specs.Title.{desktopEntry}
 use Rattle.choice.specs.Locale.{chosen}
 use Rattle.entry.specs.Lookup.{valueEnds}
-use Rattle.exec.proofs.Values.{name-chosen, icon-chosen}
+use Rattle.exec.proofs.Values.{name-in-chosen, icon-chosen}
 use Rattle.demands.specs.Texts.{orNone, NameIsChosen, IconIsChosen}
 use Rattle.demands.proofs.FileLaws.{choose-is}
 
-name-forms : (locale : List ℕ) → localeForm locale ≡ true → (groupForm desktopEntry && plainForm (ascii "Name") && localeForm locale) ≡ true
-unfolding groupForm plainForm all groupByte keyByte
-name-forms locale l = l
+name-forms : (group locale : List ℕ) → groupForm group ≡ true → localeForm locale ≡ true → (groupForm group && plainForm (ascii "Name") && localeForm locale) ≡ true
+unfolding plainForm all keyByte
+name-forms group locale g l = rw (g, l)
 
 icon-forms : (group locale : List ℕ) → groupForm group ≡ true → localeForm locale ≡ true → (groupForm group && plainForm (ascii "Icon") && localeForm locale) ≡ true
 unfolding plainForm all keyByte
@@ -29,7 +28,7 @@ icon-forms group locale g l = rw (g, l)
 
 pub name-is-chosen : NameIsChosen
 unfolding NameIsChosen
-name-is-chosen file locale c l = rw (choose-is file desktopEntry (ascii "Name") locale c (name-forms locale l)) (name-chosen file locale)
+name-is-chosen file group locale c g l = rw (choose-is file group (ascii "Name") locale c (name-forms group locale g l)) (name-in-chosen file locale group)
 
 pub icon-is-chosen : IconIsChosen
 unfolding IconIsChosen

@@ -17,6 +17,7 @@ use Rattle.entry.specs.Complete.{complete}
 use Rattle.entry.specs.Lookup.{lookup}
 use Rattle.entry.specs.Choose.{choose}
 use Rattle.exec.specs.Expand.{expand}
+use Rattle.actions.specs.Actions.{actions, expandAction}
 use Rattle.journal.specs.Journal.{Author}
 use Rattle.edit.specs.Calls.{State, content, lengthsFit}
 use Rattle.batch.specs.Batch.{nothing, batch}
@@ -56,6 +57,8 @@ pub record CallsTell (file : List ℕ) : Type 0 where
   pub lookup-tells : (group key : List ℕ) → TellsOf file (lookup file group key)
   pub choose-tells : (group key locale : List ℕ) → TellsOf file (choose file group key locale)
   pub expand-tells : (locale location list : List ℕ) (run : ℕ) → TellsOf file (expand file locale location list run)
+  pub actions-tells : (locale : List ℕ) → TellsOf file (actions file locale)
+  pub expand-action-tells : (action locale location list : List ℕ) (run : ℕ) → TellsOf file (expandAction file action locale location list run)
   pub edits-tell : (s : State) (c : Call) → content s ≡ file → TellsOf file (stateCall s c)
   pub batch-tells : (s : State) (author : Author) (list : List ℕ) → content s ≡ file → TellsOf file (unless (batch s author list .stopped))
 
@@ -76,6 +79,8 @@ pub record PassedOn (file : List ℕ) (f : Fault) : Type 0 where
   pub lookup-refuses : (group key : List ℕ) → lookup file group key ≡ refused f
   pub choose-refuses : (group key locale : List ℕ) → choose file group key locale ≡ refused f
   pub expand-refuses : (locale location list : List ℕ) (run : ℕ) → expand file locale location list run ≡ refused f
+  pub actions-refuses : (locale : List ℕ) → actions file locale ≡ refused f
+  pub expand-action-refuses : (action locale location list : List ℕ) (run : ℕ) → expandAction file action locale location list run ≡ refused f
   pub edits-refuse : (s : State) (c : Call) → lendsFile c ≡ true → lengthsFit s ≡ true → content s ≡ file → stateCall s c ≡ refused f
   pub batch-refuses : (s : State) (author : Author) (list : List ℕ) → lengthsFit s ≡ true → content s ≡ file → batch s author list ≡ nothing s (some f)
 

@@ -1,4 +1,4 @@
--- Demand 2's sentence about pupils' files, of the public expansion: each file name reaches the program as one argument, or inside the one that
+-- Demand 2's sentence about pupils' files, of both public expansions: each file name reaches the program as one argument, or inside the one that
 -- holds its code, with its own bytes. Assumes nothing.
 use Prim.Native.Nat.{ℕ, _≤_, _<_}
 use mathlib.Core.Path.{_≡_}
@@ -21,22 +21,36 @@ use Rattle.command.specs.declared.Piece.{Piece}
 use Rattle.command.specs.declared.Piece.the-variants as piece
 use Rattle.exec.specs.Run.{Run, piecesBytes, expandedAll}
 use Rattle.exec.specs.Expand.{expand}
+use Rattle.actions.specs.Actions.{actionGroup, expandAction}
 
--- the command of a file: the arguments of its Exec
-abbrev pub commandOf : List ℕ → Answer (List Argument)
-commandOf file = do
-  exec ← some-or (findRow (readRows file) (Key desktopEntry (ascii "Exec"))) Missing
+-- an expansion, and the group whose Exec it takes
+pub record Expander : Type 0 where
+  pub group : List ℕ
+  pub expansion : List ℕ → List ℕ → List ℕ → List ℕ → ℕ → Answer (List ℕ)
+
+-- that of the application
+abbrev pub ofApplication : Expander
+ofApplication = record { group = desktopEntry; expansion = expand }
+
+-- that of an action
+abbrev pub ofAction : List ℕ → Expander
+ofAction id = record { group = actionGroup id; expansion = λ file. expandAction file id }
+
+-- the command in a group of a file: the arguments of its Exec
+abbrev pub commandIn : List ℕ → List ℕ → Answer (List Argument)
+commandIn group file = do
+  exec ← some-or (findRow (readRows file) (Key group (ascii "Exec"))) Missing
   text ← readText (rawValue exec)
   readCommand text
 
--- an accepted expansion: the file's command, the files of the list, and the arguments that the output reads back to
-pub record Expansion (file locale location list : List ℕ) (run : ℕ) (out : List ℕ) : Type 0 where
+-- an accepted expansion: the command, the files of the list, and the arguments that the output reads back to
+pub record Expansion (by : Expander) (file locale location list : List ℕ) (run : ℕ) (out : List ℕ) : Type 0 where
   pub command : List Argument
   pub files : List (List ℕ)
   pub args : List (List ℕ)
-  pub commanded : commandOf file ≡ given command
+  pub commanded : commandIn (by .group) file ≡ given command
   pub listed : readList 2 listMost list ≡ some files
-  pub is : expand file locale location list run ≡ given out
+  pub is : by .expansion file locale location list run ≡ given out
   pub reads-back : readList 3 (length out) out ≡ some args
 
 -- f or u stands in a command
@@ -47,26 +61,34 @@ takesItem command = any (hasPiece isItem) command
 abbrev pub runCount : List Argument → ℕ → ℕ
 runCount command n = pick (takesItem command && not (eqb n 0)) n 1
 
-pub record FilesReachTheProgram : Type 0 where
+pub record FilesReach (by : Expander) : Type 0 where
   -- every accepted output reads back to its arguments
-  pub arguments-read-back : (file locale location list : List ℕ) (run : ℕ) (out : List ℕ) → expand file locale location list run ≡ given out
-      → Expansion file locale location list run out
+  pub arguments-read-back : (file locale location list : List ℕ) (run : ℕ) (out : List ℕ) → by .expansion file locale location list run ≡ given out
+      → Expansion by file locale location list run out
   -- one code at most takes files
-  pub one-takes-files : (file : List ℕ) (command : List Argument) → commandOf file ≡ given command → allFileCodes command ≤ 1
+  pub one-takes-files : (file : List ℕ) (command : List Argument) → commandIn (by .group) file ≡ given command → allFileCodes command ≤ 1
   -- F and U: each file is one whole argument with its own bytes, in the list's order; what stands before and after is the same for every list and run
   pub files-are-whole : (file locale location : List ℕ) (front back : List Argument) → (r : Run)
-      × ((list : List ℕ) (run : ℕ) (out : List ℕ) (x : Expansion file locale location list run out) → x .command ≡ front ++ (Files ∷ back)
+      × ((list : List ℕ) (run : ℕ) (out : List ℕ) (x : Expansion by file locale location list run out) → x .command ≡ front ++ (Files ∷ back)
       → x .args ≡ expandedAll r front ++ (x .files ++ expandedAll r back))
   -- f and u: the run's own file stands with its bytes in the one argument that holds the code; what stands around it is the same for every list and run
   pub file-stands-inside : (file locale location : List ℕ) (front back : List Argument) (quoted : Bool) (left right : List Piece) → (r : Run)
-      × ((list : List ℕ) (run : ℕ) (out : List ℕ) (x : Expansion file locale location list run out)
+      × ((list : List ℕ) (run : ℕ) (out : List ℕ) (x : Expansion by file locale location list run out)
       → x .command ≡ front ++ (Text quoted (left ++ (piece.Item ∷ right)) ∷ back) → run < length (x .files)
       → x .args ≡ expandedAll r front ++ ((piecesBytes (r .put) left ++ (getD (x .files) run [] ++ piecesBytes (r .put) right)) ∷ expandedAll r back))
   -- f and u: the run is the one run of a list that holds only its own file, so no other file can be in it
-  pub no-other-file : (file locale location list : List ℕ) (run : ℕ) (out : List ℕ) (x : Expansion file locale location list run out)
+  pub no-other-file : (file locale location list : List ℕ) (run : ℕ) (out : List ℕ) (x : Expansion by file locale location list run out)
       → takesItem (x .command) ≡ true → run < length (x .files)
-      → expand file locale location (listOf 2 (getD (x .files) run [] ∷ [])) 0 ≡ given out
+      → by .expansion file locale location (listOf 2 (getD (x .files) run [] ∷ [])) 0 ≡ given out
   -- the runs are numbered from 0, and any other number is 8
-  pub runs-are-numbered : (file locale location list : List ℕ) (run : ℕ) (out : List ℕ) (x : Expansion file locale location list run out) (n : ℕ)
-      → (n < runCount (x .command) (length (x .files)) → accepted (expand file locale location list n) ≡ true)
-      × (runCount (x .command) (length (x .files)) ≤ n → expand file locale location list n ≡ refused Missing)
+  pub runs-are-numbered : (file locale location list : List ℕ) (run : ℕ) (out : List ℕ) (x : Expansion by file locale location list run out) (n : ℕ)
+      → (n < runCount (x .command) (length (x .files)) → accepted (by .expansion file locale location list n) ≡ true)
+      × (runCount (x .command) (length (x .files)) ≤ n → by .expansion file locale location list n ≡ refused Missing)
+
+-- so it is of the application
+abbrev pub FilesReachTheProgram : Type 0
+FilesReachTheProgram = FilesReach ofApplication
+
+-- and of every action
+abbrev pub FilesReachTheAction : Type 0
+FilesReachTheAction = (id : List ℕ) → FilesReach (ofAction id)

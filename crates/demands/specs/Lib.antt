@@ -9,6 +9,7 @@ pub mod Batches
 pub mod Contracts
 pub mod Examples
 pub mod Commands
+pub mod Actions
 pub mod Texts
 pub mod BadLine
 pub mod Forgetting

@@ -1,4 +1,4 @@
--- Name and Icon in an expansion are those that the public choice of language hands back. Assumes nothing.
+-- Name and Icon in an expansion, and the labels of actions, are those that the public choice of language hands back. Assumes nothing.
 use mathlib.Core.Path.{_≡_}
 use Prim.Native.Nat.{ℕ}
 use mathlib.Core.Bool.{true}
@@ -11,9 +11,8 @@ use Rattle.fault.specs.Answer.{Answer, given, refused, _>>=_}
 use Rattle.text.specs.Escape.{readText}
 use Rattle.line.specs.Form.{groupForm, localeForm}
 use Rattle.rows.specs.Rows.{readRows}
-use Rattle.rows.specs.Title.{desktopEntry}
 use Rattle.wellformed.specs.Check.{check}
-use Rattle.exec.specs.Expand.{nameText, iconText}
+use Rattle.exec.specs.Expand.{nameIn, iconText}
 use Rattle.demands.specs.Files.{chosenPart}
 
 -- no bytes where the refusal is 8, and every other answer as it is
@@ -21,10 +20,11 @@ abbrev pub orNone : Answer (List ℕ) → Answer (List ℕ)
 orNone (given raw) = given raw
 orNone (refused f) = pick (eqb (numberOf f) 8) (given []) (refused f)
 
--- Name, where its code stands in Exec, is the text of what choice hands back, or choice's own refusal
+-- The Name of a group, the application's where its code stands in Exec and an action's as its label, is the text of what choice hands back, or
+-- choice's own refusal.
 unfoldable pub NameIsChosen : Type 0
-NameIsChosen = (file locale : List ℕ) → check file ≡ given tt → localeForm locale ≡ true
-    → nameText (readRows file) locale true ≡ (chosenPart file desktopEntry (ascii "Name") locale >>= readText)
+NameIsChosen = (file group locale : List ℕ) → check file ≡ given tt → groupForm group ≡ true → localeForm locale ≡ true
+    → nameIn (readRows file) group locale ≡ (chosenPart file group (ascii "Name") locale >>= readText)
 
 -- Icon, where its code stands in Exec, is the same of its group, and none where choice is refused with 8
 unfoldable pub IconIsChosen : Type 0

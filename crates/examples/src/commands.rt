@@ -2,8 +2,21 @@
 use crate::report::quote;
 use crate::report::say;
 use crate::report::say_number;
+use crate::report::say_room;
 use crate::report::tell_records;
 ghost use Prim.Native.Nat.{_≤_};
+
+// What an expansion is asked, from the file on.
+pub fn ask(file: &[u8], locale: &[u8], location: &[u8], list: &[u8], room: usize) {
+    quote(file);
+    say(b" for ");
+    quote(locale);
+    say(b" at ");
+    quote(location);
+    say(b" with the list ");
+    quote(list);
+    say_room(room);
+}
 
 fn expand_into(
     file: &[u8],
@@ -16,16 +29,7 @@ fn expand_into(
     say(b"expand run ");
     say_number(run);
     say(b" of ");
-    quote(file);
-    say(b" for ");
-    quote(locale);
-    say(b" at ");
-    quote(location);
-    say(b" with the list ");
-    quote(list);
-    say(b" into ");
-    say_number(out.len());
-    say(b" bytes");
+    ask(file, locale, location, list, out.len());
     let w = exec::expand(file, locale, location, list, run, out);
     tell_records(w, out);
 }

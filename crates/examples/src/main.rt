@@ -6,6 +6,7 @@ mod texts; // texts.rt: text and value lists
 mod edits; // edits.rt: set, with room in the journal and without; two in either order; who made an edit
 mod batches; // batches.rt: many requests in one call
 mod commands; // commands.rt: the expansion of Exec
+mod submenus; // submenus.rt: the actions of an application
 
 fn main() {
     // File T of 01.
@@ -31,4 +32,6 @@ fn main() {
     batches::batches(t);
     commands::expansions(t);
     commands::commands_read();
+    submenus::actions_of_a_file();
+    submenus::refused_actions();
 }

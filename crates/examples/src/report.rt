@@ -18,6 +18,13 @@ pub fn say_number(n: usize) {
     io::print_decimal(STDOUT_FILENO, n as u64);
 }
 
+// How much an output holds.
+pub fn say_room(room: usize) {
+    say(b" into ");
+    say_number(room);
+    say(b" bytes");
+}
+
 fn digit(d: u8) -> u8
     requires { ⌜ d < 16 ⌝ }
 {

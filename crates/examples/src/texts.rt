@@ -1,7 +1,7 @@
 // Examples of text and of value lists. An output holds dots, so that the report shows what a call wrote.
 use crate::report::quote;
 use crate::report::say;
-use crate::report::say_number;
+use crate::report::say_room;
 use crate::report::tell_records;
 use crate::report::tell_text;
 ghost use Prim.Native.Nat.{_≤_};
@@ -11,9 +11,7 @@ fn ask(call: &[u8], input: &[u8], room: usize) {
     say(call);
     say(b" ");
     quote(input);
-    say(b" into ");
-    say_number(room);
-    say(b" bytes");
+    say_room(room);
 }
 
 fn read_text_into(raw: &[u8], out: &mut [u8]) {

@@ -15,9 +15,9 @@ use Rattle.command.specs.Words.{wordLength, insideLength}
 use Rattle.command.specs.Command.{Argument, piecesOf, formOf, argumentAs, argumentOf, argumentsIn}
 use Rattle.command.proofs.Parting.{wordsAt, words-done, words-space, words-word}
 use Rattle.exec.specs.Run.{Run, piecesBytes, leavesNothing, iconArguments, expanded, expandedAll}
-use Rattle.exec.specs.Step.{spend}
+use Rattle.text.specs.Step.{spend}
 use Rattle.exec.proofs.Listing.{list-none, length-cons, length-one}
-use Rattle.exec.proofs.Spending.{spend-zero, spend-add}
+use Rattle.text.proofs.Room.{spend-zero, spend-add}
 
 -- the records of what arguments become
 abbrev pub recordsOf : Run → List Argument → List ℕ

@@ -12,6 +12,7 @@ use Rattle.base.proofs.Tests.{no}
 use Rattle.fault.specs.declared.Fault.{Fault}
 use Rattle.fault.specs.declared.Fault.the-variants.{Missing}
 use Rattle.fault.specs.Answer.{Answer, given, refused, _>>=_, unless, then}
+use Rattle.fault.proofs.Answers.{then-refused, bind-then}
 use Rattle.record.specs.Record.{listOf}
 use Rattle.text.specs.Escape.{readText}
 use Rattle.text.specs.declared.Written.the-variants as written
@@ -76,11 +77,7 @@ module _ (args : List Argument) (rs : List Row) (group locale location : List �
 
 -- what a check of a command says of its reading
 command-wrong : (x : List ℕ) {f : Fault} → refused f ≡ then codesIn (readCommand x) → readCommand x ≡ refused f
-command-wrong x = go (readCommand x)
-  where
-    go : (a : Answer (List Argument)) {f : Fault} → refused f ≡ then codesIn a → a ≡ refused f
-    go (given args) e = no (cc)
-    go (refused g) e = cc
+command-wrong x = then-refused codesIn (readCommand x)
 
 command-right : (x : List ℕ) {s : Seen} → given s ≡ then codesIn (readCommand x) → (readCommand x ≡ given (argumentsIn x)) × (s ≡ codesIn (argumentsIn x))
 unfolding readCommand
@@ -124,17 +121,9 @@ module _ (file group locale location : List ℕ) (items : List (List ℕ)) (run 
 module _ (file locale location list : List ℕ) (run : ℕ) where
   pub expand-refused : {f : Fault} → refused f ≡ then length (askedItems file locale location list) → expand file locale location list run ≡ refused f
   unfolding expand
-  expand-refused e = rw (asked-refused (askedItems file locale location list) e)
-    where
-      asked-refused : (a : Answer (List (List ℕ))) {f : Fault} → refused f ≡ then length a → a ≡ refused f
-      asked-refused (given items) e = no (cc)
-      asked-refused (refused g) e = cc
+  expand-refused e = rw (then-refused length (askedItems file locale location list) e)
 
   pub expand-granted : {n : ℕ} → Granted file locale location list n
       → expand file locale location list run ≡ then (listOf 3) (groupArguments (readRows file) desktopEntry locale location (itemsIn list) run)
   unfolding expand
-  expand-granted g = rw (g .is) (go (groupArguments (readRows file) desktopEntry locale location (itemsIn list) run))
-    where
-      go : (a : Answer (List (List ℕ))) → (a >>= λ args. given (listOf 3 args)) ≡ then (listOf 3) a
-      go (given args) = refl
-      go (refused f) = refl
+  expand-granted g = rw (g .is) (bind-then (listOf 3) (groupArguments (readRows file) desktopEntry locale location (itemsIn list) run))

@@ -33,7 +33,7 @@ use Rattle.entry.specs.Choose.{chosenEnds}
 use Rattle.entry.specs.declared.Ends.{Ends}
 use Rattle.entry.specs.declared.Ends.the-variants.{At}
 use Rattle.entry.proofs.Lookups.{row-inside, row-stands, chosen-inside, chosen-stands}
-use Rattle.exec.specs.Expand.{nameText, iconText}
+use Rattle.exec.specs.Expand.{nameIn, nameText, iconText}
 use Rattle.exec.specs.Step.{ReadTo}
 
 -- ---- a text is no longer than its raw value
@@ -137,15 +137,20 @@ chosen-within file group key locale {from = from} {to = to} e i =
     (w .0, w .1, part-short from to file (w .1))
 
 module _ (file locale : List ℕ) where
-  -- Name is the text of the value chosen, or the choice's refusal
-  pub name-chosen : nameText (readRows file) locale true
-      ≡ (then (λ e. part (e .from) (e .to) file) (chosenEnds (readRows file) desktopEntry (ascii "Name") locale) >>= readText)
-  unfolding nameText
-  name-chosen = rw (chosen-stands file desktopEntry (ascii "Name") locale) (by (chosen (readRows file) desktopEntry (ascii "Name") locale))
+  -- a group's Name is the text of the value chosen, or the choice's refusal
+  pub name-in-chosen : (group : List ℕ) → nameIn (readRows file) group locale
+      ≡ (then (λ e. part (e .from) (e .to) file) (chosenEnds (readRows file) group (ascii "Name") locale) >>= readText)
+  name-in-chosen group = rw (chosen-stands file group (ascii "Name") locale) (by (chosen (readRows file) group (ascii "Name") locale))
     where
       by : (o : Option Row) → (some-or o Missing >>= λ r. readText (rawValue r)) ≡ (then rawValue (some-or o Missing) >>= readText)
       by none = refl
       by (some r) = refl
+
+  -- the application's is Desktop Entry's
+  pub name-chosen : nameText (readRows file) locale true
+      ≡ (then (λ e. part (e .from) (e .to) file) (chosenEnds (readRows file) desktopEntry (ascii "Name") locale) >>= readText)
+  unfolding nameText
+  name-chosen = name-in-chosen desktopEntry
 
   pub name-unasked : nameText (readRows file) locale false ≡ given []
   unfolding nameText

@@ -39,12 +39,16 @@ askedItems file locale location list = do
   _ ← need (all fitItem items && fitLocation location) UnfitText
   given items
 
--- the text of Name by locale, where its code stands in Exec
+-- the text of a group's Name by locale, or 8, 9
+abbrev pub nameIn : List Row → List ℕ → List ℕ → Answer (List ℕ)
+nameIn rs group locale = do
+  r ← some-or (chosen rs group (ascii "Name") locale) Missing
+  readText (rawValue r)
+
+-- the text of the application's Name, where its code stands in Exec
 unfoldable pub nameText : List Row → List ℕ → Bool → Answer (List ℕ)
 nameText rs locale false = given []
-nameText rs locale true = do
-  r ← some-or (chosen rs desktopEntry (ascii "Name") locale) Missing
-  readText (rawValue r)
+nameText rs locale true = nameIn rs desktopEntry locale
 
 -- the text of a group's Icon by locale, where its code stands in Exec; a missing one is none
 unfoldable pub iconText : List Row → List ℕ → List ℕ → Bool → Answer (List ℕ)

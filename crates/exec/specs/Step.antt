@@ -1,10 +1,9 @@
 -- What the inner functions of this crate answer, by the definitions of a run. Assumes nothing.
 use mathlib.Core.Path.{_≡_}
-use Prim.Native.Nat.{ℕ, _-_, _≤_}
+use Prim.Native.Nat.{ℕ, _≤_}
 use mathlib.Core.List.{List, []}
 use lib.ListN.{length}
-use lib.Dec.{leb}
-use Rattle.base.specs.Choice.{pick, maybe}
+use Rattle.base.specs.Choice.{maybe}
 use Rattle.base.specs.Over.{atFront}
 use Rattle.fault.specs.Answer.{Answer, given, refused, then}
 use Rattle.record.specs.Record.{readList, listMost}
@@ -14,13 +13,6 @@ use Rattle.exec.specs.declared.Counted.the-variants as counted
 use Rattle.text.specs.Output.{answered}
 use Rattle.text.specs.Step.{textOf}
 use Rattle.text.specs.declared.Written.{Written}
-use Rattle.text.specs.declared.Left.{Left}
-use Rattle.text.specs.declared.Left.the-variants as left
-
--- the room left after n bytes
-unfoldable pub spend : Left → ℕ → Left
-spend (left.Bytes room) n = pick (leb n room) (left.Bytes (room - n)) left.Short
-spend left.Short n = left.Short
 
 -- the items of a list that reads
 abbrev pub itemsIn : List ℕ → List (List ℕ)

@@ -39,7 +39,7 @@ pub enum Counted {
 }
 
 // The file, the list, the locale, the items and the location: 1 to 6, 14, 7, 10.
-fn ask(file: &[u8], locale: &[u8], location: &[u8], list: &[u8]) -> Counted
+pub fn ask(file: &[u8], locale: &[u8], location: &[u8], list: &[u8]) -> Counted
     ensures { λ r. ⌜ step.askedAs r ≡ then length (spec.askedItems (now (file .entry)) (now (locale .entry)) (now (location .entry)) (now (list .entry))) ⌝ }
 {
     match wellformed::check(file) {
@@ -164,7 +164,7 @@ fn run_command(
 }
 
 // A run of the Exec in a group of a well-formed file, for a list of so many items: 8, 9, 15 and 16 by lowest place, and the run's refusals.
-fn expand_group(
+pub fn expand_group(
     file: &[u8],
     group: &[u8],
     locale: &[u8],

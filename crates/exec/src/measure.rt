@@ -10,24 +10,10 @@ ghost use lib.ListN.{length};
 ghost use Rattle.base.specs.Lists.{all};
 ghost use Rattle.base.specs.Choice.{there};
 ghost use Rattle.record.specs.Record.{listOf, readList, listMost};
+ghost use Rattle.text.specs.Step.{spend};
 ghost use Rattle.command.specs.Command.{piecesOf, formOf, argumentAs, argumentsIn};
 ghost use Rattle.exec.specs.Run as run;
 ghost use Rattle.exec.specs.Step as spec;
-
-// The room left after n bytes.
-fn spend(left: Left, n: usize) -> Left
-    ensures { λ r. ⌜ r ≡ spec.spend left n ⌝ }
-{
-    match left {
-        Left::Short => Left::Short,
-        Left::Bytes(room) => {
-            if room < n {
-                return Left::Short;
-            }
-            Left::Bytes(room - n)
-        }
-    }
-}
 
 // How many bytes a piece stands for.
 fn piece_length(p: Piece, item: &[u8], name: &[u8], location: &[u8]) -> usize
@@ -52,13 +38,13 @@ fn pieces_left(
     left: Left,
 ) -> Left
     requires { ⌜ length (now s) ≤ 32768 ⌝ }
-    ensures { λ r. ⌜ r ≡ spec.spend left (length (run.piecesBytes (spec.putOf (now (item .entry)) (now (name .entry)) (now (location .entry))) (piecesOf quoted (now (s .entry))))) ⌝ }
+    ensures { λ r. ⌜ r ≡ spend left (length (run.piecesBytes (spec.putOf (now (item .entry)) (now (name .entry)) (now (location .entry))) (piecesOf quoted (now (s .entry))))) ⌝ }
 {
     let mut i: usize = 0;
     let mut room = left;
     while i < s.len() {
         let p = command::piece_at(s, i, quoted);
-        room = spend(room, piece_length(p, item, name, location));
+        room = text::spend(room, piece_length(p, item, name, location));
         i = command::next_at(s, i, quoted);
     }
     room
@@ -114,19 +100,19 @@ pub fn is_dropped(s: &[u8], item: &[u8]) -> bool
 // The room left after the record of an argument with these pieces.
 fn text_left(s: &[u8], quoted: bool, item: &[u8], name: &[u8], location: &[u8], left: Left) -> Left
     requires { ⌜ length (now s) ≤ 32768 ⌝ }
-    ensures { λ r. ⌜ r ≡ spec.spend left (length (listOf 3 (run.piecesBytes (spec.putOf (now (item .entry)) (now (name .entry)) (now (location .entry))) (piecesOf quoted (now (s .entry))) ∷ []))) ⌝ }
+    ensures { λ r. ⌜ r ≡ spend left (length (listOf 3 (run.piecesBytes (spec.putOf (now (item .entry)) (now (name .entry)) (now (location .entry))) (piecesOf quoted (now (s .entry))) ∷ []))) ⌝ }
 {
-    pieces_left(s, quoted, item, name, location, spend(left, 6))
+    pieces_left(s, quoted, item, name, location, text::spend(left, 6))
 }
 
 // The room left after the records of `--icon` and the Icon.
 fn icon_left(icon: &[u8], left: Left) -> Left
-    ensures { λ r. ⌜ r ≡ spec.spend left (length (listOf 3 (run.iconArguments (now (icon .entry))))) ⌝ }
+    ensures { λ r. ⌜ r ≡ spend left (length (listOf 3 (run.iconArguments (now (icon .entry))))) ⌝ }
 {
     if icon.len() == 0 {
         return left;
     }
-    spend(spend(left, 18), icon.len())
+    text::spend(text::spend(left, 18), icon.len())
 }
 
 // The room left after the records of what a word's argument becomes.
@@ -140,12 +126,12 @@ fn word_left(
     left: Left,
 ) -> Left
     requires { ⌜ (0 < length (now word)) × (length (now word) ≤ 32768) × (there (readList 2 listMost (now list)) ≡ true) ⌝ }
-    ensures { λ r. ⌜ r ≡ spec.spend left (length (listOf 3 (run.expanded
+    ensures { λ r. ⌜ r ≡ spend left (length (listOf 3 (run.expanded
         (run.runOf (spec.putOf (now (item .entry)) (now (name .entry)) (now (location .entry))) (spec.itemsIn (now (list .entry))) (now (icon .entry)))
         (argumentAs (formOf (now (word .entry))) (now (word .entry)))))) ⌝ }
 {
     match command::form_of(word) {
-        Form::Files => spend(left, list.len()),
+        Form::Files => text::spend(left, list.len()),
         Form::Icon => icon_left(icon, left),
         Form::Quoted => {
             let closing = command::words::quote_end(word, 1);
@@ -171,7 +157,7 @@ pub fn run_left(
     room: usize,
 ) -> Left
     requires { ⌜ (length (now exec) ≤ 32768) × (there (readList 2 listMost (now list)) ≡ true) ⌝ }
-    ensures { λ r. ⌜ r ≡ spec.spend (Left.Bytes room) (length (listOf 3 (run.expandedAll
+    ensures { λ r. ⌜ r ≡ spend (Left.Bytes room) (length (listOf 3 (run.expandedAll
         (run.runOf (spec.putOf (now (item .entry)) (now (name .entry)) (now (location .entry))) (spec.itemsIn (now (list .entry))) (now (icon .entry)))
         (argumentsIn (now (exec .entry)))))) ⌝ }
 {

@@ -4,7 +4,7 @@ use mathlib.Core.Bool.{Bool, true, false, false≢true}
 use mathlib.Core.Option.{Option, none, some}
 use Rattle.base.proofs.Tests.{no}
 use Rattle.fault.specs.declared.Fault.{Fault}
-use Rattle.fault.specs.Answer.{Answer, given, refused, _>>=_, need, some-or, unless, accepted}
+use Rattle.fault.specs.Answer.{Answer, given, refused, _>>=_, need, some-or, unless, then, accepted}
 
 pub bind-given : {A B : Type 0} (x : Answer A) (k : A → Answer B) (b : B) → (x >>= k) ≡ given b → (a : A) × (x ≡ given a) × (k a ≡ given b)
 bind-given (given a) k b e = (a, refl, e)
@@ -29,6 +29,19 @@ unless-refused (some g) f e = cc
 -- what was given is one thing
 pub given-is : {A : Type 0} (a b : A) → given a ≡ given b → a ≡ b
 given-is a b e = cc
+
+-- an answer, by what was made of it
+pub then-given : {A B : Type 0} (h : A → B) (a : Answer A) {b : B} → given b ≡ then h a → (x : A) × (a ≡ given x)
+then-given h (given x) e = (x, refl)
+then-given h (refused f) e = no (cc)
+
+pub then-refused : {A B : Type 0} (h : A → B) (a : Answer A) {f : Fault} → refused f ≡ then h a → a ≡ refused f
+then-refused h (given x) e = no (cc)
+then-refused h (refused g) e = cc
+
+pub bind-then : {A B : Type 0} (h : A → B) (a : Answer A) → (a >>= λ x. given (h x)) ≡ then h a
+bind-then h (given x) = refl
+bind-then h (refused f) = refl
 
 -- what is accepted was given
 pub accepted-given : {A : Type 0} (a : Answer A) → accepted a ≡ true → (x : A) × (a ≡ given x)

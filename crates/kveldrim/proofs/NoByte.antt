@@ -50,7 +50,7 @@ write-not2 : (text : List ℕ) → IfRefused Not2 (writeText text)
 unfolding writeText
 write-not2 text = if-need Not2 (fitText text) UnfitText (λ _. given (rawText text)) refl (λ _. tt)
 
-each-not2 : (es : List (List ℕ)) (at : ℕ) → IfRefused Not2 (eachRead es at)
+pub each-not2 : (es : List (List ℕ)) (at : ℕ) → IfRefused Not2 (eachRead es at)
 unfolding eachRead
 each-not2 [] at = tt
 each-not2 (e ∷ es) at =

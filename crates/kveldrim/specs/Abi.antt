@@ -13,7 +13,7 @@ use Rattle.batch.specs.Batch.{Batch}
 
 -- the number of the C interface, raised whenever a call is new or its signature changes
 abbrev pub abi : ℕ
-abi = 4
+abi = 5
 
 -- the refusal's number, 0 if accepted
 abbrev pub codeOf : {A : Type 0} → Answer A → ℕ

@@ -10,6 +10,7 @@ ghost use Rattle.text.specs.Escape.{readText, writeText};
 ghost use Rattle.text.specs.Element.{readElements};
 ghost use Rattle.text.specs.Output.{answered, told, held};
 ghost use Rattle.exec.specs.Expand.{expand};
+ghost use Rattle.actions.specs.Actions.{actions, expandAction};
 ghost use Rattle.entry.specs.Lookup as lookup;
 ghost use Rattle.entry.specs.Choose.{choose};
 ghost use Rattle.entry.specs.Complete.{complete};
@@ -57,7 +58,7 @@ fn tell_checked(c: Checked, place: &mut u64, byte: &mut u64) -> u32
     }
 }
 
-const ABI: u32 = 4;
+const ABI: u32 = 5;
 
 #[no_mangle]
 pub extern "C" fn kveldrim_abi() -> u32
@@ -199,6 +200,48 @@ pub extern "C" fn kveldrim_expand(
     let n = run as usize;
     tell_written(
         exec::expand(file, locale, location, list, n, out),
+        place,
+        byte,
+        written,
+    )
+}
+
+#[no_mangle]
+pub extern "C" fn kveldrim_actions(
+    file: &[u8],
+    locale: &[u8],
+    out: &mut [u8],
+    place: &mut u64,
+    byte: &mut u64,
+    written: &mut u64,
+) -> u32
+    ensures told { λ r. ⌜ ReturnedNumber (told (actions (now (file .entry)) (now (locale .entry))) (now (out .entry)))
+        r (now (place .exit)) (now (byte .exit)) (now (written .entry)) (now (written .exit)) ⌝ }
+    ensures output { λ _. ⌜ now (out .exit) ≡ held (actions (now (file .entry)) (now (locale .entry))) (now (out .entry)) ⌝ }
+{
+    tell_written(actions::actions(file, locale, out), place, byte, written)
+}
+
+#[no_mangle]
+pub extern "C" fn kveldrim_expand_action(
+    file: &[u8],
+    action: &[u8],
+    locale: &[u8],
+    location: &[u8],
+    list: &[u8],
+    run: u64,
+    out: &mut [u8],
+    place: &mut u64,
+    byte: &mut u64,
+    written: &mut u64,
+) -> u32
+    ensures told { λ r. ⌜ ReturnedNumber (told (expandAction (now (file .entry)) (now (action .entry)) (now (locale .entry)) (now (location .entry)) (now (list .entry)) run) (now (out .entry)))
+        r (now (place .exit)) (now (byte .exit)) (now (written .entry)) (now (written .exit)) ⌝ }
+    ensures output { λ _. ⌜ now (out .exit) ≡ held (expandAction (now (file .entry)) (now (action .entry)) (now (locale .entry)) (now (location .entry)) (now (list .entry)) run) (now (out .entry)) ⌝ }
+{
+    let n = run as usize;
+    tell_written(
+        actions::expand_action(file, action, locale, location, list, n, out),
         place,
         byte,
         written,

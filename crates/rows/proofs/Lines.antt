@@ -2,9 +2,9 @@
 use mathlib.Core.Path.{_≡_, refl, sym, ap, _∙_}
 use Prim.Native.Nat.{ℕ, _-_, _≤_, _<_}
 use native.Mathlib.Omega.{arith}
-use mathlib.Core.Bool.{Bool, true, false, _&&_, and-false, false≢true}
-use mathlib.Core.List.{List, [], _∷_}
-use lib.ListN.{length, take, length-take}
+use mathlib.Core.Bool.{Bool, true, false, _&&_, and-false, and-assoc, false≢true}
+use mathlib.Core.List.{List, [], _∷_, _++_}
+use lib.ListN.{length, take, drop, length-take}
 use lib.Seq.{length-take-le}
 use lib.Dec.{eqb}
 use borrow.Author.Tests.{eqb-true, eqb-false}
@@ -149,6 +149,13 @@ not-front k l f = go (readName l) (name-within l)
 pub too-short : (k l : List ℕ) → length l < length k → same k (take (length k) l) ≡ false
 too-short k l h =
     by-test (same k (take (length k) l)) (λ t. absurd (omega (arith, ap length (same-true k (take (length k) l) t), length-take (length k) l))) (λ e. e)
+
+-- two parts, one after the other, are compared part by part
+pub joined-same : (f r s : List ℕ) → same (f ++ r) s ≡ (same f (take (length f) s) && same r (drop (length f) s))
+unfolding same
+joined-same [] r s = refl
+joined-same (x ∷ f) r [] = refl
+joined-same (x ∷ f) r (y ∷ s) = rw (joined-same f r s) (sym (and-assoc (eqb x y) (same f (take (length f) s)) (same r (drop (length f) s))))
 
 -- one that is at the front is the name if it is as long
 pub front : (k l : List ℕ) (n : ℕ) → same k (take (length k) l) ≡ true → n ≤ length l → same k (take n l) ≡ eqb n (length k)

@@ -3,6 +3,7 @@ use line::Line;
 use line::Named;
 ghost use mathlib.Core.Path.{_≡_};
 ghost use mathlib.Core.Bool.{true, false};
+ghost use mathlib.Core.List.{_++_};
 ghost use Prim.Native.Nat.{_+_, _≤_, _<_};
 ghost use lib.ListN.{length, take, drop};
 ghost use Rattle.base.specs.Lists as lists;
@@ -183,10 +184,24 @@ pub fn find_key(file: &[u8], group: &[u8], key: &[u8]) -> Found
     Found::Nothing
 }
 
-// The header of a group, in a file without bad lines.
-pub fn find_group(file: &[u8], group: &[u8]) -> Found
+// Whether bytes are two parts, one after the other.
+fn is_joined(s: &[u8], front: &[u8], rest: &[u8]) -> bool
+    ensures { λ r. ⌜ r ≡ lists.same (now (front .entry) ++ now (rest .entry)) (now (s .entry)) ⌝ }
+{
+    let n = front.len();
+    if s.len() < n {
+        return false;
+    }
+    if same(rest, &s[n..]) {
+        return same(front, &s[..n]);
+    }
+    false
+}
+
+// The header of a group whose name is two parts, one after the other, in a file without bad lines.
+pub fn find_group(file: &[u8], front: &[u8], rest: &[u8]) -> Found
     requires { ⌜ noneBad (now file) ≡ true ⌝ }
-    ensures { λ r. ⌜ r ≡ toldOf (title.findRow (readRows (now (file .entry))) (title.Group (now (group .entry)))) ⌝ }
+    ensures { λ r. ⌜ r ≡ toldOf (title.findRow (readRows (now (file .entry))) (title.Group (now (front .entry) ++ now (rest .entry)))) ⌝ }
 {
     let mut p: usize = 0;
     let mut n: usize = 1;
@@ -195,7 +210,7 @@ pub fn find_group(file: &[u8], group: &[u8]) -> Found
         let l = &file[p..e];
         if line::byte_at(l, 0) == b'[' {
             let t = l.len() - 1;
-            if same(group, &l[1..t]) {
+            if is_joined(&l[1..t], front, rest) {
                 return Found::Row {
                     line: n,
                     start: p,

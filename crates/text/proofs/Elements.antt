@@ -1,8 +1,8 @@
 -- The elements of a raw value, one after another, as the loops take them. Assumes nothing.
 use mathlib.Core.Path.{_≡_, refl, sym, ap, _∙_}
-use Prim.Native.Nat.{ℕ, zero, suc, _+_, _-_, _≤_, _<_}
+use Prim.Native.Nat.{ℕ, suc, _+_, _-_, _≤_, _<_}
 use native.Mathlib.Omega.{arith}
-use mathlib.Core.Bool.{Bool, true, false, _&&_, false≢true}
+use mathlib.Core.Bool.{Bool, true, false, false≢true}
 use mathlib.Core.Option.{Option, none, some}
 use mathlib.Core.List.{List, [], _∷_, _++_}
 use lib.ListN.{length, take, drop, length-append, length-drop}
@@ -18,16 +18,17 @@ use Rattle.base.proofs.Fill.{Fill, fill-start, fill-length, fill-as, fill-over,
 use Rattle.fault.specs.declared.Fault.{Fault}
 use Rattle.fault.specs.declared.Fault.the-variants.{BadEscape, NoRoom}
 use Rattle.fault.specs.Answer.{Answer, given, refused, _>>=_, need, then, accepted}
+use Rattle.fault.proofs.Answers.{then-refused, bind-then}
 use Rattle.record.specs.Record.{recordLength, recordBytes, listBytes, listOf}
 use Rattle.record.proofs.Sizes.{length-record, list-of-cons}
 use Rattle.text.specs.Escape.{escape, textFrom}
 use Rattle.text.specs.Element.{rawElements, eachRead, elementsOf, fitsRecord, readElements}
-use Rattle.text.specs.Step.{textOf, elementsIn, spend, spendAll, elementLength}
+use Rattle.text.specs.Step.{textOf, elementsIn, spend, spendRecord, spendAll, elementLength}
 use Rattle.text.specs.declared.Escapes.{Escapes}
 use Rattle.text.specs.declared.Escapes.the-variants as escapes
 use Rattle.text.specs.declared.Left.{Left}
 use Rattle.text.specs.declared.Left.the-variants as left
-use Rattle.text.proofs.OutputLaws.{Leaves, given-length, refused-length, leaves-refused, leaves-full, leaves-written}
+use Rattle.text.proofs.OutputLaws.{Leaves, given-length, leaves-refused, leaves-full, leaves-written}
 
 -- ---- the text of some bytes does not depend on their place, and the place of a wrong escape moves with it
 
@@ -138,10 +139,6 @@ element-within (b ∷ bs) false = go (eqb b 59) (element-within bs (eqb b 92))
 abbrev pub elementsAt : List ℕ → ℕ → Answer (List (List ℕ))
 elementsAt raw i = eachRead (rawElements (drop i raw) false) i
 
-each-then : (t : List ℕ) (a : Answer (List (List ℕ))) → (a >>= λ ts. given (t ∷ ts)) ≡ then (λ ts. t ∷ ts) a
-each-then t (given ts) = refl
-each-then t (refused f) = refl
-
 pub elements-done : (raw : List ℕ) (i : ℕ) → length raw ≤ i → elementsAt raw i ≡ given []
 unfolding rawElements eachRead
 elements-done raw i h = rw (done raw i h)
@@ -164,7 +161,7 @@ module _ (raw : List ℕ) (i : ℕ) {e : ℕ} (h : i < length raw) (q : e ≡ i 
   long : length element ≡ e - i
   long = let d = length-drop i raw in length-take-le (e - i) (drop i raw) (omega (arith, element-end .1))
 
-  split : rawElements (drop i raw) false ≡ element ∷ rawElements (drop (e + 1) raw) false
+  pub split : rawElements (drop i raw) false ≡ element ∷ rawElements (drop (e + 1) raw) false
   split =
       let d : 0 < length (drop i raw) = simp length-drop (omega arith) in
       let m : e - i ≡ elementLength (drop i raw) false = omega arith in
@@ -180,11 +177,11 @@ module _ (raw : List ℕ) (i : ℕ) {e : ℕ} (h : i < length raw) (q : e ≡ i 
 
   pub element-read : accepted own ≡ true → elementsAt raw i ≡ then (λ ts. textOf own ∷ ts) (elementsAt raw (e + 1))
   unfolding eachRead
-  element-read a = rw (split, text-anywhere escapes.List element i a, next) (each-then (textOf own) (elementsAt raw (e + 1)))
+  element-read a = rw (split, text-anywhere escapes.List element i a, next) (bind-then (λ ts. textOf own ∷ ts) (elementsAt raw (e + 1)))
 
 -- ---- the room that is left
 
-spend-cons : (room : Left) (t : List ℕ) (a : Answer (List (List ℕ))) → then (spendAll room) (then (λ ts. t ∷ ts) a) ≡ then (spendAll (spend room (length t))) a
+spend-cons : (room : Left) (t : List ℕ) (a : Answer (List (List ℕ))) → then (spendAll room) (then (λ ts. t ∷ ts) a) ≡ then (spendAll (spendRecord room (length t))) a
 unfolding spendAll
 spend-cons room t (given ts) = refl
 spend-cons room t (refused f) = refl
@@ -203,25 +200,33 @@ module _ {raw : List ℕ} {room i : ℕ} {rest : Left} (s : Sparing raw room i r
 
   module _ {e : ℕ} (h : i < length raw) (q : e ≡ i + elementLength (drop i raw) false) where
     pub spare-wrong : {p : ℕ} → refused (BadEscape p) ≡ then length (own raw i h q) → refused (BadEscape (i + p)) ≡ then (spendAll (left.Bytes room)) (elementsOf raw)
-    spare-wrong {p} w = rw (element-wrong raw i h q (refused-length (own raw i h q) (BadEscape p) w)) at (s .goes)
+    spare-wrong {p} w = rw (element-wrong raw i h q (then-refused length (own raw i h q) w)) at (s .goes)
 
     -- its place is inside
     pub spare-place : {p : ℕ} → refused (BadEscape p) ≡ then length (own raw i h q) → i + p ≤ length raw
     spare-place {p} w =
-        let b = wrong-within escapes.List (element raw i h q) 0 (refused-length (own raw i h q) (BadEscape p) w) in
+        let b = wrong-within escapes.List (element raw i h q) 0 (then-refused length (own raw i h q) w) in
         omega (arith, long raw i h q, element-end raw i h q)
 
-    pub spare-next : {n : ℕ} {rest′ : Left} → given n ≡ then length (own raw i h q) → rest′ ≡ spend rest n → Sparing raw room (e + 1) rest′
+    pub spare-next : {n : ℕ} {rest′ : Left} → given n ≡ then length (own raw i h q) → rest′ ≡ spendRecord rest n → Sparing raw room (e + 1) rest′
     spare-next {n} w r =
         let g = given-length (own raw i h q) n w in
         record { goes = rw (r, g .1) (sym (spend-cons rest (textOf (own raw i h q)) (elementsAt raw (e + 1))) ∙ rw (element-read raw i h q (g .0)) at (s .goes)) }
 
 -- ---- what the room that is left says
 
+short-record : (n : ℕ) → spendRecord left.Short n ≡ left.Short
+unfolding spendRecord spend
+short-record n = go (ltb (6 + n) 0x100000000)
+  where
+    go : (t : Bool) → pick t left.Short left.Short ≡ left.Short
+    go true = refl
+    go false = refl
+
 short-stays : (es : List (List ℕ)) → spendAll left.Short es ≡ left.Short
-unfolding spendAll spend
+unfolding spendAll
 short-stays [] = refl
-short-stays (e ∷ es) = short-stays es
+short-stays (e ∷ es) = rw (short-record (length e)) (short-stays es)
 
 length-cons : (e : List ℕ) (es : List (List ℕ)) → length (listOf 2 (e ∷ es)) ≡ recordLength e + length (listOf 2 es)
 length-cons e es = rw (list-of-cons 2 e es, length-append, length-record)
@@ -232,7 +237,7 @@ Enough room es (left.Bytes n) = (all fitsRecord es ≡ true) × (length (listOf 
 Enough room es left.Short = (all fitsRecord es ≡ true) → room < length (listOf 2 es)
 
 enough : (es : List (List ℕ)) (room : ℕ) → Enough room es (spendAll (left.Bytes room) es)
-unfolding spendAll spend all
+unfolding spendAll spendRecord spend all
 enough [] room = (refl, unfold listOf listBytes joined in omega arith)
 enough (e ∷ es) room = go (fitsRecord e) (leb (recordLength e) room) refl refl (enough es (room - recordLength e))
   where

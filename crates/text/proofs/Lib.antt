@@ -4,6 +4,7 @@ pub mod OutputLaws
 pub mod Reading
 pub mod Writing
 pub mod Elements
+pub mod Room
 pub mod ReadBack
 pub mod Values
 pub mod Endings

@@ -1,7 +1,6 @@
 -- What a call that writes its answer to a lent output leaves, way by way. Assumes nothing.
-use mathlib.Core.Path.{_≡_, refl, sym, ap, _∙_}
+use mathlib.Core.Path.{_≡_, refl, ap}
 use Prim.Native.Nat.{ℕ, _≤_, _<_}
-use native.Mathlib.Omega.{arith}
 use mathlib.Core.Bool.{true, false, false≢true}
 use mathlib.Core.List.{List}
 use lib.ListN.{length}
@@ -22,10 +21,6 @@ Leaves a out r out′ = (r ≡ told a out) × (out′ ≡ held a out)
 pub given-length : (a : Answer (List ℕ)) (n : ℕ) → given n ≡ then length a → (accepted a ≡ true) × (n ≡ length (textOf a))
 given-length (given s) n e = (refl, cc)
 given-length (refused f) n e = no (cc)
-
-pub refused-length : (a : Answer (List ℕ)) (f : Fault) → refused f ≡ then length a → a ≡ refused f
-refused-length (given s) f e = no (cc)
-refused-length (refused g) f e = cc
 
 pub leaves-refused : (a : Answer (List ℕ)) (f : Fault) (out : List ℕ) → a ≡ refused f → Leaves a out (refused f) out
 leaves-refused a f out e = rw e (refl, refl)

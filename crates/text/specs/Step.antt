@@ -90,16 +90,19 @@ abbrev pub elementsIn : Answer (List (List ℕ)) → List (List ℕ)
 elementsIn (given es) = es
 elementsIn (refused f) = []
 
--- the room left after a record whose body has n bytes
+-- the room left after n bytes
 unfoldable pub spend : Left → ℕ → Left
-spend (left.Bytes room) n =
-    pick (ltb (headLength + n) 0x100000000) (pick (leb (headLength + n) room) (left.Bytes (room - (headLength + n))) left.Short) left.Short
+spend (left.Bytes room) n = pick (leb n room) (left.Bytes (room - n)) left.Short
 spend left.Short n = left.Short
+
+-- the room left after a record whose body has n bytes, if its length has 4
+unfoldable pub spendRecord : Left → ℕ → Left
+spendRecord room n = pick (ltb (headLength + n) 0x100000000) (spend room (headLength + n)) left.Short
 
 -- the room left after the records of some bodies
 unfoldable pub spendAll : Left → List (List ℕ) → Left
 spendAll room [] = room
-spendAll room (e ∷ es) = spendAll (spend room (length e)) es
+spendAll room (e ∷ es) = spendAll (spendRecord room (length e)) es
 
 -- the room left after a list, or where an escape in it is wrong
 abbrev pub spared : Spared → Answer Left

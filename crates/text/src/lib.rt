@@ -2,13 +2,14 @@
 pub mod classes; // classes.rt: classes of bytes
 pub mod utf8; // utf8.rt: UTF-8
 pub mod escape; // escape.rt: text from raw bytes and back
-mod list; // list.rt: the elements of a value list
+pub mod list; // list.rt: the elements of a value list
 
 use fault::Fault;
 ghost use mathlib.Core.Path.{_≡_};
 ghost use Rattle.text.specs.Escape.{readText, writeText};
 ghost use Rattle.text.specs.Element.{readElements};
 ghost use Rattle.text.specs.Output.{answered, told, held};
+ghost use Rattle.text.specs.Step as step;
 
 // A class of bytes. A locale's part is made of the bytes of a key.
 pub enum Class {
@@ -83,6 +84,21 @@ pub enum Spared {
 pub enum Written {
     Bytes(usize),
     Refused(Fault),
+}
+
+// The room left after n bytes.
+pub fn spend(left: Left, n: usize) -> Left
+    ensures { λ r. ⌜ r ≡ step.spend left n ⌝ }
+{
+    match left {
+        Left::Short => Left::Short,
+        Left::Bytes(room) => {
+            if room < n {
+                return Left::Short;
+            }
+            Left::Bytes(room - n)
+        }
+    }
 }
 
 // The text of a raw value: 9, then 11.

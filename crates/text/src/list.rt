@@ -16,7 +16,7 @@ ghost use Rattle.text.specs.Element.{elementsOf};
 ghost use Rattle.text.specs.Step as spec;
 
 // Where the raw element that begins at a place ends: at its `;`, or at the end.
-fn element_end(raw: &[u8], from: usize) -> usize
+pub fn element_end(raw: &[u8], from: usize) -> usize
     ensures { λ r. ⌜ r ≡ from + spec.elementLength (drop from (now (raw .entry))) false ⌝ }
 {
     let mut i = from;
@@ -37,21 +37,13 @@ fn element_end(raw: &[u8], from: usize) -> usize
 }
 
 // The room left after a record whose body has n bytes.
-fn spend(left: Left, n: usize) -> Left
-    ensures { λ r. ⌜ r ≡ spec.spend left n ⌝ }
+fn spend_record(left: Left, n: usize) -> Left
+    ensures { λ r. ⌜ r ≡ spec.spendRecord left n ⌝ }
 {
-    match left {
-        Left::Short => Left::Short,
-        Left::Bytes(room) => {
-            if 0xfffffff9 < n {
-                return Left::Short;
-            }
-            if room < 6 + n {
-                return Left::Short;
-            }
-            Left::Bytes(room - (6 + n))
-        }
+    if 0xfffffff9 < n {
+        return Left::Short;
     }
+    crate::spend(left, 6 + n)
 }
 
 // The room that the elements' records leave, or where an escape is wrong.
@@ -65,7 +57,7 @@ pub fn spare(raw: &[u8], room: usize) -> Spared
         match escape::text_length(&raw[i..e], Escapes::List) {
             Measure::Wrong(at) => return Spared::Wrong(i + at),
             Measure::Length(n) => {
-                left = spend(left, n);
+                left = spend_record(left, n);
                 i = e + 1;
             }
         }
@@ -73,15 +65,14 @@ pub fn spare(raw: &[u8], room: usize) -> Spared
     Spared::Is(left)
 }
 
-// One element's record through the part of the output that starts at a place; the answer is where it ends.
-fn put(raw: &[u8], out: &mut [u8], at: usize) -> usize
-    requires { ⌜ (accepted (textFrom Escapes.List (now raw) false 0) ≡ true)
-        × (at + recordLength (spec.textOf (textFrom Escapes.List (now raw) false 0)) ≤ length (now out)) ⌝ }
-    ensures { λ r. ⌜ (r ≡ at + recordLength (spec.textOf (textFrom Escapes.List (now (raw .entry)) false 0)))
-        × (now (out .exit) ≡ over (now (out .entry)) at (recordBytes (record { kind = 2; body = spec.textOf (textFrom Escapes.List (now (raw .entry)) false 0) }))) ⌝ }
+// The record of a raw value's text through the part of the output that starts at a place; the answer is where it ends.
+pub fn put(raw: &[u8], k: Escapes, out: &mut [u8], at: usize) -> usize
+    requires { ⌜ (accepted (textFrom k (now raw) false 0) ≡ true) × (at + recordLength (spec.textOf (textFrom k (now raw) false 0)) ≤ length (now out)) ⌝ }
+    ensures { λ r. ⌜ (r ≡ at + recordLength (spec.textOf (textFrom k (now (raw .entry)) false 0)))
+        × (now (out .exit) ≡ over (now (out .entry)) at (recordBytes (record { kind = 2; body = spec.textOf (textFrom k (now (raw .entry)) false 0) }))) ⌝ }
 {
     let from = at + 6;
-    let n = escape::unescape(raw, Escapes::List, &mut out[from..]);
+    let n = escape::unescape(raw, k, &mut out[from..]);
     record::put_head(&mut out[at..], 6 + n, 2);
     from + n
 }
@@ -96,7 +87,7 @@ pub fn write(raw: &[u8], out: &mut [u8]) -> usize
     let mut at: usize = 0;
     while i < raw.len() {
         let e = element_end(raw, i);
-        at = put(&raw[i..e], out, at);
+        at = put(&raw[i..e], Escapes::List, out, at);
         i = e + 1;
     }
     at

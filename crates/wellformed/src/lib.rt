@@ -57,7 +57,7 @@ fn header(
         return Verdict::First;
     }
     if there {
-        return match rows::find_group(&file[..p], name) {
+        return match rows::find_group(&file[..p], b"", name) {
             Found::Row {
                 line: _,
                 start: _,

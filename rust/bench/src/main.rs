@@ -1,14 +1,17 @@
-//! Times the library against GLib's GKeyFile, from bytes in memory to answers, and prints a table.
+//! Times the library against GLib's GKeyFile and GDesktopAppInfo, from bytes in memory to answers, and prints a table.
 //! `cargo run --release --offline [FOLDER]`; the folder of .desktop files is /usr/share/applications if none is given.
 
+mod actions;
 mod glib;
 mod renames;
 
-use std::ffi::{CStr, CString};
+use std::ffi::{CStr, CString, OsStr};
 use std::hint::black_box;
+use std::os::unix::ffi::OsStrExt;
 use std::time::{Duration, Instant};
 use std::{env, fs};
 
+use actions::Actions;
 use glib::KeyFile;
 use kveldrim::DESKTOP_ENTRY;
 use renames::Renames;
@@ -54,6 +57,9 @@ impl Input {
 }
 
 fn main() {
+    // GDesktopAppInfo takes its locale from here.
+    env::remove_var("LANGUAGE");
+    env::set_var("LC_ALL", OsStr::from_bytes(LOCALE.to_bytes()));
     let folder = env::args_os().nth(1);
     let folder = folder.unwrap_or("/usr/share/applications".into());
     let real = real_files(&folder);
@@ -61,6 +67,7 @@ fn main() {
     let same_ends = same_ends();
     let long = long_value();
     let renames = Renames::new();
+    let actions = Actions::all(&real.0);
     let refused = real.1;
     println!(
         "{} real files, {refused} more left out (refused by one of both)",
@@ -73,6 +80,7 @@ fn main() {
     agree(&real.0);
     agree(&short.0);
     renames.agree();
+    actions.iter().for_each(Actions::agree);
     println!();
     println!("| input | call | Kveldrim, µs a file | GLib, µs a file | GLib / Kveldrim |");
     println!("|---|---|---:|---:|---:|");
@@ -87,6 +95,7 @@ fn main() {
     );
     read_text("one value of 30 KB", &long);
     renames.rows();
+    actions.iter().for_each(Actions::row);
 }
 
 /// The rows of calls on whole files.
@@ -162,7 +171,13 @@ fn read_text(name: &str, inputs: &[Input]) {
 }
 
 /// Times both in turn, many rounds, and prints the medians.
-fn row<A>(
+fn row<A>(name: &str, call: &str, inputs: &[A], ours: impl FnMut(&A), theirs: impl FnMut(&A)) {
+    timed(ROUNDS, name, call, inputs, ours, theirs);
+}
+
+/// As [`row`], so many rounds.
+fn timed<A>(
+    rounds: usize,
     name: &str,
     call: &str,
     inputs: &[A],
@@ -171,13 +186,13 @@ fn row<A>(
 ) {
     let passes = passes(inputs, &mut theirs);
     let mut times = [Vec::new(), Vec::new()];
-    for _ in 0..ROUNDS {
+    for _ in 0..rounds {
         times[0].push(pass(inputs, passes, &mut ours));
         times[1].push(pass(inputs, passes, &mut theirs));
     }
     let [ours, theirs] = times.map(|mut times| {
         times.sort();
-        times[ROUNDS / 2].as_secs_f64() * 1e6 / (passes * inputs.len()) as f64
+        times[rounds / 2].as_secs_f64() * 1e6 / (passes * inputs.len()) as f64
     });
     println!(
         "| {name} | {call} | {ours:.2} | {theirs:.2} | {:.2} |",
@@ -234,7 +249,7 @@ fn agree(inputs: &[Input]) {
 }
 
 /// The .desktop files of a folder, and how many are left out.
-fn real_files(folder: &std::ffi::OsStr) -> (Vec<Input>, usize) {
+fn real_files(folder: &OsStr) -> (Vec<Input>, usize) {
     let entries = fs::read_dir(folder).into_iter().flatten().flatten();
     let mut paths: Vec<_> = entries
         .map(|entry| entry.path())
@@ -255,19 +270,22 @@ fn real_files(folder: &std::ffi::OsStr) -> (Vec<Input>, usize) {
     (inputs, left_out)
 }
 
-/// A file of 32,768 bytes with as many keys as fit: all of one byte, then all of two, and so on.
+/// A file of 32,768 bytes with as many keys as fit.
 fn short_keys() -> (Vec<Input>, usize) {
+    synthetic(short_key)
+}
+
+/// The number-th shortest key: all of one byte, then all of two, and so on.
+fn short_key(number: usize) -> Vec<u8> {
     const BYTES: &[u8] = b"ABCDEFGHIJKLMNOPQRSTUVWXYZabcdefghijklmnopqrstuvwxyz0123456789-";
-    synthetic(|number| {
-        let mut key = Vec::new();
-        let mut rest = number + 1;
-        while rest > 0 {
-            rest -= 1;
-            key.push(BYTES[rest % BYTES.len()]);
-            rest /= BYTES.len();
-        }
-        key
-    })
+    let mut key = Vec::new();
+    let mut rest = number + 1;
+    while rest > 0 {
+        rest -= 1;
+        key.push(BYTES[rest % BYTES.len()]);
+        rest /= BYTES.len();
+    }
+    key
 }
 
 /// A file of as many bytes whose keys differ only between start, middle and end: the worst that is known for the check.

@@ -41,6 +41,8 @@ pub enum Command {
     Get(Get),
     /// Writes the elements of a list, each on a line of its own
     List(List),
+    /// Lists an application's actions, its further ways to start
+    Actions(Actions),
     /// Sets a key to a text, which is escaped as needed
     Set(Set),
     /// Removes a key with its line
@@ -135,6 +137,27 @@ pub struct List {
     /// A zero byte after each element, in place of a line feed
     #[arg(long, conflicts_with = "json")]
     pub null: bool,
+}
+
+#[derive(Args)]
+#[command(after_help = "\
+The key Actions has the identifiers, and the group Desktop Action ID is that of the identifier ID. A line has an identifier, a \
+tab and the action's label, the Name in its group. What would alter a terminal is shown by its bytes, as \\x0A; --null and \
+--json write it as it is. An action without a group or a Name is not listed. `kveldrim expand FILE --action ID` writes the \
+command of an action.")]
+pub struct Actions {
+    /// The file, or - for standard input
+    pub file: OsString,
+    #[command(flatten)]
+    pub locale: Locale,
+    /// A zero byte after each identifier and each label, in place of a tab and a line feed
+    #[arg(long, conflicts_with = "json")]
+    pub null: bool,
+    /// Warns of nothing: neither of an identifier in Actions that is not listed, nor of one that stands there more than once
+    #[arg(long)]
+    pub no_warn: bool,
+    #[command(flatten)]
+    pub json: Json,
 }
 
 /// The key that is set or removed.
@@ -370,6 +393,9 @@ pub struct Expand {
     pub file: OsString,
     /// The files to open
     pub files: Vec<OsString>,
+    /// Writes the command of the action ID, with its own Exec and Icon (`kveldrim actions FILE` lists the actions)
+    #[arg(long, value_name = "ID")]
+    pub action: Option<OsString>,
     #[command(flatten)]
     pub locale: Locale,
     /// Where FILE is, for %k (without: FILE)

@@ -3,6 +3,7 @@
 use std::cell::Cell;
 use std::collections::BTreeSet;
 use std::ffi::OsStr;
+use std::iter;
 use std::os::unix::ffi::OsStrExt;
 use std::process::ExitCode;
 
@@ -12,9 +13,9 @@ use serde_json::json;
 use crate::arguments::{Change, Editing, Forget, Json, Key, Log, Manner, Remove, Set, Step, Who};
 use crate::log::{edits, Done, Recorded, State, Tense, Told};
 use crate::persons::{given_person, Persons};
-use crate::report::Trouble;
+use crate::report::{warn_of_many, Trouble};
 use crate::store::Store;
-use crate::{expand, json, locale, streams};
+use crate::{actions, expand, json, locale, streams};
 
 pub fn set(set: &Set) -> ExitCode {
     let text = set.text.as_bytes();
@@ -312,40 +313,46 @@ impl Accepted<'_> {
     /// Warns of keys that were set and that the locales in their postfixes do not read, in the order of the lines that these read
     /// instead. Of very many the rest is counted.
     fn warn_of_unread(&self) {
-        const MOST: usize = 10;
         let keys: BTreeSet<(&[u8], &[u8])> = self.keys.iter().copied().collect();
         let unread = keys.into_iter().filter_map(|(group, key)| {
             let read = locale::read_instead(self.after, group, key)?;
             Some((read.start, key))
         });
         let unread: BTreeSet<(usize, &[u8])> = unread.collect();
-        for (start, key) in unread.iter().take(MOST) {
-            Trouble::unread(self.file, self.after, *start, key).tell();
-        }
-        let words = match unread.len().saturating_sub(MOST) {
-            0 => return,
-            1 => "1 more key is not read by its own locale".into(),
-            rest => format!("{rest} more keys are not read by their own locales"),
-        };
-        Trouble::warning_of(self.file, words).tell();
+        let warning = |(start, key)| Trouble::unread(self.file, self.after, start, key);
+        let rest = [
+            "key is not read by its own locale",
+            "keys are not read by their own locales",
+        ];
+        warn_of_many(self.file, unread.into_iter(), warning, rest);
     }
 }
 
-/// Warns of a file that is not complete, or whose Exec cannot be expanded, where all that it was made of were and could.
+/// Warns of a file that is not complete, or whose Exec, its own or that of an action, cannot be expanded, where all that it was
+/// made of were and could.
 pub fn warn_of_loss(acts: &str, file: &OsStr, before: &[&[u8]], after: &[u8]) {
     let incomplete = |bytes: &[u8]| {
         let refusal = kveldrim::complete(bytes).err()?;
         Some(Trouble::of_file(file, bytes, refusal))
     };
-    let unexpanded = |bytes: &[u8]| expand::trouble_of(file, bytes);
-    let warn = |ask: &dyn Fn(&[u8]) -> Option<Trouble>, loss: &str| {
-        let was_well = before.iter().all(|bytes| ask(bytes).is_none());
-        if let Some(trouble) = ask(after).filter(|_| was_well) {
-            trouble.warning(&format!("with {acts} {loss}")).tell();
-        }
+    let lost = |ask: &dyn Fn(&[u8]) -> Option<Trouble>, loss: &str| {
+        let was_well = || before.iter().all(|bytes| ask(bytes).is_none());
+        let trouble = ask(after).filter(|_| was_well())?;
+        Some(trouble.warning(&format!("with {acts} {loss}")))
     };
-    warn(&incomplete, "the file is no longer complete");
-    warn(&unexpanded, "Exec can no longer be expanded");
+    let incomplete = lost(&incomplete, "the file is no longer complete");
+    let actions = actions::listed(after).into_iter().map(Some);
+    let unexpanded = iter::once(None).chain(actions).filter_map(|action| {
+        let trouble = |bytes: &[u8]| expand::trouble_of(file, bytes, action.as_deref());
+        let exec = expand::exec_of(action.as_deref());
+        lost(&trouble, &format!("{exec} can no longer be expanded"))
+    });
+    let losses: Vec<Trouble> = incomplete.into_iter().chain(unexpanded).collect();
+    let rest = [
+        "action has an Exec that can no longer be expanded",
+        "actions have an Exec that can no longer be expanded",
+    ];
+    warn_of_many(file, losses.into_iter(), |loss| loss, rest);
 }
 
 pub fn log(log: &Log) -> ExitCode {

@@ -1,6 +1,7 @@
-//! `kveldrim expand`: writes the arguments of a file's command. It starts nothing.
+//! `kveldrim expand`: writes the arguments of a file's command, or of that of an action. It starts nothing.
 
 use std::ffi::OsStr;
+use std::ops::Range;
 use std::os::unix::ffi::OsStrExt;
 use std::process::ExitCode;
 
@@ -10,12 +11,13 @@ use serde_json::{json, Value};
 use crate::arguments::Expand;
 use crate::json::{line, text};
 use crate::report::Trouble;
-use crate::{faults, locale, streams};
+use crate::{actions, faults, locale, streams};
 
-/// What is asked of a file's command.
+/// What is asked of a file's command, or of that of one of its actions.
 struct Asked<'a> {
     name: &'a OsStr,
     file: &'a [u8],
+    action: Option<&'a [u8]>,
     items: Vec<&'a [u8]>,
     locale: Vec<u8>,
     location: &'a [u8],
@@ -26,37 +28,44 @@ type Arguments = Vec<Vec<u8>>;
 
 /// The command.
 pub fn expand(expand: &Expand) -> ExitCode {
-    match streams::read(&expand.file).and_then(|file| answer(expand, &file)) {
-        Ok(bytes) => streams::write(&bytes),
-        Err(trouble) => trouble.tell(),
-    }
+    streams::answer(&expand.file, |file| answer(expand, file))
 }
 
-/// What is wrong with a file's command; none if it has no Exec.
-pub fn trouble_of(name: &OsStr, file: &[u8]) -> Option<Trouble> {
-    kveldrim::lookup(file, DESKTOP_ENTRY, b"Exec").ok()?;
+/// What is wrong with a file's command, or with that of an action; none if there is no Exec, or the action is not listed.
+pub fn trouble_of(name: &OsStr, file: &[u8], action: Option<&[u8]>) -> Option<Trouble> {
     let asked = Asked {
         name,
         file,
+        action,
         items: Vec::new(),
         locale: Vec::new(),
         location: b"",
     };
+    asked.exec().ok()?;
     let refusal = asked.count_runs().err()?;
-    Some(asked.trouble(refusal))
+    let unlisted = action.and_then(|action| actions::unlisted(file, action));
+    unlisted.is_none().then(|| asked.trouble(refusal))
+}
+
+/// The words for a file's Exec, or for that of an action.
+pub fn exec_of(action: Option<&[u8]>) -> String {
+    match action {
+        Some(action) => format!("Exec of the action {}", faults::named(action)),
+        None => "Exec".into(),
+    }
 }
 
 /// What is to be written.
 fn answer(expand: &Expand, file: &[u8]) -> Result<Vec<u8>, Trouble> {
-    let locale = expand.locale.locale.as_deref().map(locale::asked);
     // Standard input is nowhere.
     let own = Some(&*expand.file).filter(|file| *file != streams::STDIN);
     let location = expand.location.as_deref().or(own).unwrap_or_default();
     let asked = Asked {
         name: &expand.file,
         file,
+        action: expand.action.as_deref().map(OsStr::as_bytes),
         items: expand.files.iter().map(|item| item.as_bytes()).collect(),
-        locale: locale.map_or(Vec::new(), |locales| locale::of_name(file, &locales)),
+        locale: locale::of_names(file, &[DESKTOP_ENTRY], &expand.locale),
         location: location.as_bytes(),
     };
     let told = |refusal| asked.trouble(refusal);
@@ -109,11 +118,44 @@ fn shown(expand: &Expand, run: u64, arguments: &Arguments) -> Vec<u8> {
 
 impl Asked<'_> {
     fn arguments(&self, run: u64) -> Result<Arguments, Refusal> {
-        kveldrim::expand_args(self.file, &self.locale, self.location, &self.items, run)
+        let (file, locale, location, items) = self.lent();
+        match self.action {
+            Some(action) => {
+                kveldrim::expand_action_args(file, action, locale, location, items, run)
+            }
+            None => kveldrim::expand_args(file, locale, location, items, run),
+        }
     }
 
     fn count_runs(&self) -> Result<u64, Refusal> {
-        kveldrim::runs(self.file, &self.locale, self.location, &self.items)
+        let (file, locale, location, items) = self.lent();
+        match self.action {
+            Some(action) => kveldrim::action_runs(file, action, locale, location, items),
+            None => kveldrim::runs(file, locale, location, items),
+        }
+    }
+
+    /// What every expansion is lent.
+    fn lent(&self) -> (&[u8], &[u8], &[u8], &[&[u8]]) {
+        (self.file, &self.locale, self.location, &self.items)
+    }
+
+    /// The group of Exec and Icon.
+    fn group(&self) -> Vec<u8> {
+        self.action.map_or(DESKTOP_ENTRY.into(), actions::group_of)
+    }
+
+    /// Where the raw value of Exec stands.
+    fn exec(&self) -> Result<Range<usize>, Refusal> {
+        kveldrim::lookup_ends(self.file, &self.group(), b"Exec")
+    }
+
+    /// The text of Exec, empty if it cannot be read.
+    fn exec_text(&self) -> Vec<u8> {
+        let text = self
+            .exec()
+            .and_then(|exec| kveldrim::read_text_vec(&self.file[exec]));
+        text.unwrap_or_default()
     }
 
     /// Says on standard error that run 0 is not all, so that no file is missed.
@@ -126,11 +168,12 @@ impl Asked<'_> {
 
     /// Says on standard error that no file reaches the program, where there are some.
     fn tell_of_unused(&self) {
-        let exec = kveldrim::lookup(self.file, DESKTOP_ENTRY, b"Exec");
-        let text = exec.and_then(kveldrim::read_text_vec).unwrap_or_default();
-        if !self.items.is_empty() && faults::file_code(&text).is_none() {
-            let words = "Exec has none of %f, %F, %u and %U, so no file is handed to the program";
-            Trouble::note(self.name, words).tell();
+        if !self.items.is_empty() && faults::file_code(&self.exec_text()).is_none() {
+            let words = format!(
+                "{} has none of %f, %F, %u and %U, so no file is handed to the program",
+                exec_of(self.action)
+            );
+            Trouble::note(self.name, &words).tell();
         }
     }
 
@@ -161,40 +204,54 @@ impl Asked<'_> {
         if refusal.kind == Kind::Escape {
             return faults::escape(self.file, place);
         }
-        let exec = kveldrim::lookup(self.file, DESKTOP_ENTRY, b"Exec").unwrap_or_default();
-        faults::exec(&kveldrim::read_text_vec(exec).unwrap_or_default(), refusal)
+        faults::exec(&self.exec_text(), refusal)
     }
 
-    /// What is missing: Exec, the run, or the Name that `%c` needs.
+    /// What is missing: the action, Exec, the run, or the Name that `%c` needs.
     fn missing(&self) -> String {
-        if kveldrim::lookup(self.file, DESKTOP_ENTRY, b"Exec").is_err() {
-            return "there is no key Exec in a group Desktop Entry".into();
+        let action = self.action;
+        if let Some(words) = action.and_then(|action| actions::missing(self.file, action)) {
+            return words;
+        }
+        if self.exec().is_err() {
+            let group = faults::named(&self.group());
+            return format!("there is no key Exec in a group {group}");
         }
         match self.count_runs() {
             Ok(1) => "there is no such run; there is only run 0".into(),
             Ok(runs) => format!("there is no such run; the last is {}", runs - 1),
-            Err(_) => "there is no key Name in a group Desktop Entry; %c in Exec needs it".into(),
+            Err(_) => format!(
+                "there is no key Name in a group Desktop Entry; %c in {} needs it",
+                exec_of(self.action)
+            ),
         }
     }
 
-    /// Where a fault of Exec, or a wrong escape of Exec, Name or Icon, stands in the file.
+    /// Where a fault of Exec, or a wrong escape of Actions, Exec, Name or Icon, stands in the file.
     fn place_in_file(&self, refusal: Refusal) -> usize {
         let place = refusal.place as usize;
-        let exec = kveldrim::lookup_ends(self.file, DESKTOP_ENTRY, b"Exec").unwrap_or(0..0);
+        let exec = self.exec().unwrap_or(0..0);
         let raw = &self.file[exec.clone()];
         if refusal.kind != Kind::Escape {
             return exec.start + raw_place(raw, place);
         }
+        let list = self.action.and_then(|_| actions::wrong_list(self.file));
+        if let Some(start) = list {
+            return start + place;
+        }
         let Ok(text) = kveldrim::read_text_vec(raw) else {
             return exec.start + place;
         };
-        let chosen = |key| kveldrim::choose_ends(self.file, DESKTOP_ENTRY, key, &self.locale);
-        let name = chosen(b"Name").unwrap_or(0..0);
+        let chosen = |group: &[u8], key: &[u8]| {
+            let ends = kveldrim::choose_ends(self.file, group, key, &self.locale);
+            ends.unwrap_or(0..0)
+        };
+        let name = chosen(DESKTOP_ENTRY, b"Name");
         let has_name = faults::codes(&text).any(|code| code == b'c');
         if has_name && kveldrim::read_text_vec(&self.file[name.clone()]).is_err() {
             return name.start + place;
         }
-        chosen(b"Icon").unwrap_or(0..0).start + place
+        chosen(&self.group(), b"Icon").start + place
     }
 }
 

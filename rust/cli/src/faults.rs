@@ -246,6 +246,12 @@ pub fn header(line: &[u8]) -> Option<&[u8]> {
     line.strip_prefix(b"[")?.strip_suffix(b"]")
 }
 
+/// Whether a well-formed file has a group.
+pub fn has_group(file: &[u8], group: &[u8]) -> bool {
+    let mut lines = file.split(|byte| *byte == b'\n');
+    lines.any(|line| header(line) == Some(group))
+}
+
 /// The key, with its postfix, and the raw value of a good entry's line; none for other good lines.
 pub fn entry(line: &[u8]) -> Option<(&[u8], &[u8])> {
     if matches!(line.first()?, b' ' | b'\t' | b'#' | b'[') {
@@ -275,7 +281,7 @@ pub fn named(text: &[u8]) -> String {
 }
 
 /// What stands at a place in a line or value, in words.
-fn spot(line: &[u8], at: usize) -> String {
+pub fn spot(line: &[u8], at: usize) -> String {
     match line[at] {
         b' ' => "a space".into(),
         b'\t' => "a tab".into(),

@@ -7,6 +7,7 @@ use std::os::unix::ffi::{OsStrExt, OsStringExt};
 
 use kveldrim::{Refusal, DESKTOP_ENTRY};
 
+use crate::arguments::Locale;
 use crate::faults;
 use crate::report::{shown, warn};
 
@@ -57,9 +58,19 @@ fn is_locale(word: &[u8]) -> bool {
     kveldrim::choose(b"[Desktop Entry]\nA=\n", DESKTOP_ENTRY, b"A", word).is_ok()
 }
 
-/// The first of the locales by which another value than that of the plain key is chosen, or which means the plain key.
-fn first<'a>(file: &[u8], group: &[u8], key: &[u8], locales: &'a [Vec<u8>]) -> Option<&'a Vec<u8>> {
-    let chosen = |locale: &[u8]| kveldrim::choose_ends(file, group, key, locale);
+/// The first of the locales by which another value than that of the plain key is chosen in one of the groups, or which means the
+/// plain key.
+fn first<'a>(
+    file: &[u8],
+    groups: &[impl AsRef<[u8]>],
+    key: &[u8],
+    locales: &'a [Vec<u8>],
+) -> Option<&'a Vec<u8>> {
+    let chosen = |locale: &[u8]| -> Vec<_> {
+        let groups = groups.iter();
+        let ends = groups.map(|group| kveldrim::choose_ends(file, group.as_ref(), key, locale));
+        ends.collect()
+    };
     let plain = chosen(b"");
     locales
         .iter()
@@ -73,13 +84,15 @@ pub fn choose(
     key: &[u8],
     locales: &[Vec<u8>],
 ) -> Result<Range<usize>, Refusal> {
-    let locale = first(file, group, key, locales);
+    let locale = first(file, &[group], key, locales);
     kveldrim::choose_ends(file, group, key, locale.map_or(b"", |locale| locale))
 }
 
-/// The one of the locales that an expansion takes: the first that has a Name of its own, else the first of all.
-pub fn of_name(file: &[u8], locales: &[Vec<u8>]) -> Vec<u8> {
-    let own = first(file, DESKTOP_ENTRY, b"Name", locales);
+/// The one locale that an answer takes, of those that are asked for: the first that has a Name of its own in one of the groups,
+/// else the first of all.
+pub fn of_names(file: &[u8], groups: &[impl AsRef<[u8]>], locale: &Locale) -> Vec<u8> {
+    let locales = locale.locale.as_deref().map(asked).unwrap_or_default();
+    let own = first(file, groups, b"Name", &locales);
     own.or(locales.first()).cloned().unwrap_or_default()
 }
 

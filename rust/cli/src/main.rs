@@ -4,6 +4,7 @@
 #![forbid(unsafe_code)]
 
 mod access;
+mod actions;
 mod arguments;
 mod attributes;
 mod batch;
@@ -57,6 +58,7 @@ fn run(words: impl Iterator<Item = OsString>) -> ExitCode {
         Command::Complete(files) => check::each(files, kveldrim::complete, "complete"),
         Command::Get(get) => value::get(get),
         Command::List(list) => value::list(list),
+        Command::Actions(asked) => actions::actions(asked),
         Command::Set(set) => editing::set(set),
         Command::Remove(remove) => editing::remove(remove),
         Command::Batch(asked) => batch::batch(asked),

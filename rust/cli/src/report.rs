@@ -344,11 +344,9 @@ impl Trouble {
         bytes: &[u8],
         refusal: Refusal,
     ) -> Trouble {
-        let header = [b"[", group, b"]"].concat();
-        let mut lines = bytes.split(|byte| *byte == b'\n');
         let words = match refusal.kind {
             Kind::Form => form(group, key),
-            Kind::Missing if lines.any(|line| line == header) => no_key(group, key),
+            Kind::Missing if faults::has_group(bytes, group) => no_key(group, key),
             Kind::Missing => [b"there is no group ", &escaped(group)[..]].concat(),
             Kind::Unfit => UNFIT.into(),
             Kind::NoRoom => "the file would be over 32,768 bytes".into(),
@@ -428,6 +426,26 @@ pub fn warn(words: &[u8]) {
     Trouble::warning_of(OsStr::new("kveldrim"), words).tell();
 }
 
+/// Tells the first of many warnings about a file, and how many the others are, in the words for one and for several.
+pub fn warn_of_many<A>(
+    file: &OsStr,
+    all: impl ExactSizeIterator<Item = A>,
+    warning: impl Fn(A) -> Trouble,
+    [one, several]: [&str; 2],
+) {
+    const MOST: usize = 10;
+    let rest = all.len().saturating_sub(MOST);
+    for item in all.take(MOST) {
+        warning(item).tell();
+    }
+    let words = match rest {
+        0 => return,
+        1 => format!("1 more {one}"),
+        rest => format!("{rest} more {several}"),
+    };
+    Trouble::warning_of(file, words).tell();
+}
+
 /// What Form means to somebody at a keyboard: which of the group, the key and the locale is not well written.
 fn form(group: &[u8], key: &[u8]) -> Vec<u8> {
     let is_formed = |group: &[u8], key: &[u8]| {
@@ -499,7 +517,8 @@ fn word(name: &[u8]) -> Option<Vec<u8>> {
     (escaped(name) == name).then(|| quoted(name))
 }
 
-fn escaped(text: &[u8]) -> Vec<u8> {
+/// Text in which what alters a terminal is escaped.
+pub fn escaped(text: &[u8]) -> Vec<u8> {
     let mut escaped = Vec::new();
     for chunk in text.utf8_chunks() {
         for character in chunk.valid().chars() {
@@ -539,7 +558,7 @@ pub fn plain(error: &io::Error) -> String {
 }
 
 /// The number of the line that an offset in the file is in, and where that line stands, without its LF.
-fn line_at(bytes: &[u8], offset: usize) -> (usize, Range<usize>) {
+pub fn line_at(bytes: &[u8], offset: usize) -> (usize, Range<usize>) {
     let before = &bytes[..offset];
     let start = before.iter().rposition(|byte| *byte == b'\n');
     let start = start.map_or(0, |at| at + 1);

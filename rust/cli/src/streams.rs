@@ -32,6 +32,14 @@ pub fn read_most(file: &OsStr, most: usize) -> Result<Vec<u8>, Trouble> {
     bytes.map_err(|error| Trouble::unreadable(file, &error))
 }
 
+/// Writes what is answered of a file, or tells why there is no answer.
+pub fn answer(file: &OsStr, answer: impl FnOnce(&[u8]) -> Result<Vec<u8>, Trouble>) -> ExitCode {
+    match read(file).and_then(|bytes| answer(&bytes)) {
+        Ok(bytes) => write(&bytes),
+        Err(trouble) => trouble.tell(),
+    }
+}
+
 /// Writes an answer; the status is what came of it.
 pub fn write(bytes: &[u8]) -> ExitCode {
     match put(bytes) {

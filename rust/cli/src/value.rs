@@ -40,21 +40,21 @@ fn answer<A>(
     read: impl Fn(&[u8]) -> Result<A, Refusal>,
     shown: impl Fn(&A) -> (Vec<u8>, Value),
 ) -> ExitCode {
-    let answer = streams::read(&wanted.file).and_then(|bytes| {
-        let ends = find(wanted, &bytes)?;
-        read(&bytes[ends.clone()])
-            .map_err(|refusal| Trouble::of_value(&wanted.file, &bytes, ends.start, refusal))
-    });
-    match answer.map(|read| shown(&read)) {
-        Ok((_, value)) if wanted.json.json => streams::write(&line(&json!({
-            "file": text(wanted.file.as_bytes()),
-            "group": text(wanted.group.group.as_bytes()),
-            "key": text(wanted.key.as_bytes()),
-            "value": value,
-        }))),
-        Ok((lines, _)) => streams::write(&lines),
-        Err(trouble) => trouble.tell(),
-    }
+    streams::answer(&wanted.file, |bytes| {
+        let ends = find(wanted, bytes)?;
+        let read = read(&bytes[ends.clone()])
+            .map_err(|refusal| Trouble::of_value(&wanted.file, bytes, ends.start, refusal))?;
+        let (lines, value) = shown(&read);
+        Ok(match wanted.json.json {
+            true => line(&json!({
+                "file": text(wanted.file.as_bytes()),
+                "group": text(wanted.group.group.as_bytes()),
+                "key": text(wanted.key.as_bytes()),
+                "value": value,
+            })),
+            false => lines,
+        })
+    })
 }
 
 /// Where the raw value stands that is wanted: by its locales, or just by its key.

@@ -8,7 +8,7 @@ use std::fs;
 use std::os::unix::fs::MetadataExt;
 use std::process::Command;
 
-use common::{Folder, Outcome, JOURNAL, T};
+use common::{run_the_readme, Folder, Outcome, JOURNAL, T};
 use serde_json::{json, Value};
 
 const FILE: &str =
@@ -1095,24 +1095,5 @@ fn an_answer_that_cannot_be_written() {
 /// The commands of the README write what it says.
 #[test]
 fn the_example_of_the_readme() {
-    let readme = concat!(env!("CARGO_MANIFEST_DIR"), "/../../README.md");
-    let readme = fs::read_to_string(readme).unwrap();
-    let (_, section) = readme
-        .split_once("\n## A term's renames at once\n")
-        .unwrap();
-    let (section, _) = section.split_once("\n## ").unwrap();
-    let mut blocks = section
-        .split("\n\n")
-        .filter(|block| block.starts_with("    "));
-    let mut block = || {
-        let lines = blocks.next().unwrap().lines();
-        let lines = lines.map(|line| format!("{}\n", line.strip_prefix("    ").unwrap()));
-        lines.collect::<String>()
-    };
-    let (commands, written) = (block(), block());
-    let folder = Folder::new();
-    std::os::unix::fs::symlink(env!("CARGO_BIN_EXE_kveldrim"), folder.0.join("kveldrim")).unwrap();
-    let mut command = Command::new("sh");
-    command.args(["-c", &commands]).env("TMPDIR", &folder.0);
-    folder.run_by(command, &[]).writes(written.as_bytes());
+    run_the_readme("A term's renames at once");
 }

@@ -64,7 +64,9 @@ fn every_command_tells_the_byte_of_a_bad_line() {
         &[b"remove", b"tab", b"Name"],
         &[b"undo", b"tab"],
         &[b"redo", b"tab"],
+        &[b"actions", b"tab"],
         &[b"expand", b"tab"],
+        &[b"expand", b"tab", b"--action", b"a"],
     ];
     for words in commands {
         folder

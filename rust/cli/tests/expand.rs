@@ -22,6 +22,16 @@ fn with_lines(lines: &[u8]) -> Folder {
     Folder::new().with(b"t", &file)
 }
 
+/// A folder with the file `t`, whose action `new` has this Exec in line 14 and then these lines.
+fn with_action(exec: &str, lines: &str) -> Folder {
+    let lines = format!(
+        "Name=Read it\nName[de]=Lies!\nIcon=book\nExec=view %F\nActions=old;new;\n\
+        [Desktop Action old]\nName=Old\nExec=view --old\n\
+        [Desktop Action new]\nName=New\nName[de]=Neu\nExec={exec}\n{lines}"
+    );
+    with_lines(lines.as_bytes())
+}
+
 impl Folder {
     /// Runs `kveldrim expand` in the folder, with a German locale in the environment.
     fn expand(&self, words: &[&[u8]]) -> Outcome {
@@ -317,6 +327,264 @@ fn refusals_are_told_in_words() {
 }
 
 #[test]
+fn an_action_has_its_own_exec() {
+    let folder = with_action("view --new %f", "");
+    folder
+        .expand(&[b"t", b"--action", b"old"])
+        .writes(b"view --old\n");
+    folder
+        .expand(&[b"t", b"--action=new", b"a b"])
+        .writes(b"view --new 'a b'\n");
+    let new = |words: &[&[u8]]| {
+        let words = [&[&b"--action=new"[..], b"t", b"a b", b"c%f"], words].concat();
+        folder.expand(&words)
+    };
+    new(&[]).tells_and_writes(0, &["t: this is run 0 of 2;"], b"view --new 'a b'\n");
+    new(&[b"--all"]).writes(b"view --new 'a b'\nview --new c%f\n");
+    new(&[b"--run=1"]).writes(b"view --new c%f\n");
+    new(&[b"--runs"]).writes(b"2\n");
+    new(&[b"--runs", b"--json"]).writes(b"{\"runs\":2}\n");
+    new(&[b"--null", b"--run=0"]).writes(b"view\0--new\0a b\0");
+    new(&[b"--json", b"--run=1"])
+        .writes(b"{\"arguments\":[\"view\",\"--new\",\"c%f\"],\"run\":1}\n");
+    new(&[b"--run=2"]).tells(1, &["t: there is no such run; the last is 1"]);
+    for (code, expected) in [
+        ("%F", &b"view a '\xFF'\n"[..]),
+        ("%U", b"view a '\xFF'\n"),
+        ("%u", b"view a\nview '\xFF'\n"),
+        ("x%f%d", b"view xa\nview 'x\xFF'\n"),
+    ] {
+        with_action(&format!("view {code}"), "")
+            .expand(&[b"t", b"--action=new", b"--all", b"a", b"\xFF"])
+            .writes(expected);
+    }
+    // The application's own Exec is expanded as ever.
+    folder.expand(&[b"t", b"a"]).writes(b"view a\n");
+    let mut command = Command::new("sh");
+    command.args([
+        "-c",
+        "exec \"$0\" \"$@\" < t",
+        env!("CARGO_BIN_EXE_kveldrim"),
+    ]);
+    folder
+        .run_by(command, &[b"expand", b"-", b"--action=old"])
+        .writes(b"view --old\n");
+}
+
+/// An action has its own Icon, and the Name of the application.
+#[test]
+fn name_and_icon_of_an_action() {
+    let folder = with_action("view %i %c %k", "Icon=pen\nIcon[de]=stift\n");
+    folder
+        .expand(&[b"t", b"--action=new"])
+        .writes(b"view --icon pen 'Read it' t\n");
+    let german = b"view --icon stift 'Lies!' /a\n";
+    for locale in ["de", "auto", "de_AT.UTF-8@euro"] {
+        let option = format!("--locale={locale}");
+        folder
+            .expand(&[b"t", b"--action=new", option.as_bytes(), b"--location=/a"])
+            .writes(german);
+    }
+    // That of the application does not stand for one that is missing or empty.
+    for icon in ["", "Icon=\n"] {
+        with_action("view %i %c", icon)
+            .expand(&[b"t", b"--action=new"])
+            .writes(b"view 'Read it'\n");
+    }
+}
+
+/// Faults are told where they stand, and those that an action does not meet are not told.
+#[test]
+fn faults_of_an_action_are_told_at_their_byte() {
+    let of = |exec: &str, lines: &str, words: &str| {
+        let folder = with_action(exec, lines);
+        folder
+            .expand(&[b"t", b"--action=new", b"a"])
+            .tells(1, &[words]);
+        // They are nothing to the others.
+        folder.expand(&[b"t"]).writes(b"view\n");
+        folder
+            .expand(&[b"t", b"--action=old"])
+            .writes(b"view --old\n");
+    };
+    of("view \"%f\"", "", "t:14:12: codes do not work in quotes");
+    of("view %f %u", "", "t:14:14: %u is a second code for files");
+    of("view 'a'", "", "t:14:11: \"'\" cannot stand outside");
+    of("view\\s\\s$", "", "t:14:14: \"$\" cannot stand");
+    of("", "", "t:14:6: Exec names no program");
+    of("view \\q", "", "t:14:11: \\q is no escape; ");
+    of(
+        "view %i",
+        "Icon=a\\\n",
+        "t:15:7: the value ends with a single",
+    );
+    let wrong = |lines: &str, words: &str| {
+        let file = format!("[Desktop Entry]\n{lines}");
+        let folder = Folder::new().with(b"t", file.as_bytes());
+        folder
+            .expand(&[b"t", b"--action=a", b"--locale=de"])
+            .tells(1, &[words]);
+    };
+    let action = "[Desktop Action a]\nName=\\q\nExec=view %c %i\nIcon=\\q\n";
+    wrong(
+        &format!("Name=n\nName[de]=a\\q\nActions=a\n{action}"),
+        "t:3:11: \\q is no escape; ",
+    );
+    wrong(
+        &format!("Name=n\nActions=a\n{action}"),
+        "t:7:6: \\q is no escape; ",
+    );
+    wrong(
+        &format!("Actions=a\\n;a;b\\q\nName=\\q\n{action}"),
+        "t:2:16: \\q is no escape; ",
+    );
+    // A wrong list is no matter to the application's own Exec.
+    with_lines(b"Actions=\\q\nExec=view a\\q\n")
+        .expand(&[b"t"])
+        .tells(1, &["t:4:12: \\q is no escape; "]);
+    // A wrong Exec or Icon of the application, and a wrong label, are no matter.
+    let lines = "Name=n\nExec=view '\nIcon=\\q\nActions=a;b\n\
+        [Desktop Action a]\nName=\\q\nExec=view %i %c\n[Desktop Action b]\nName=\\\n";
+    with_lines(lines.as_bytes())
+        .expand(&[b"t", b"--action=a"])
+        .writes(b"view n\n");
+    let folder = with_action("view 'a'", "");
+    let (status, told) = folder.run_on_terminal(&["expand", "t", "--action=new"]);
+    let (words, line) = told.split_once('\n').unwrap();
+    assert!(words.starts_with("t:14:11: "), "{told}");
+    assert_eq!((status, line), (1, "    Exec=view 'a'\n              ^\n"));
+}
+
+/// It is told why an action cannot be asked for, and which can.
+#[test]
+fn an_action_that_is_not_listed() {
+    let groups = "[Desktop Action a]\nName=A\nExec=a\n[Desktop Action b]\nExec=b\n[Desktop Action c]\nName=C\nExec=c\n\
+        [Desktop Action a_b]\nName=x\nExec=x\n[Desktop Action e]\nName=E\nExec=e\n";
+    let told = |list: &str, action: &str, why: &str| {
+        let folder = with_lines(format!("Name=n\nExec=n\n{list}{groups}").as_bytes());
+        let action = format!("--action={action}");
+        for option in ["--all", "--runs", "--json", "--run=0"] {
+            let outcome = folder.expand(&[b"t", action.as_bytes(), option.as_bytes()]);
+            assert_eq!(
+                String::from_utf8_lossy(&outcome.told),
+                format!("t: the action {why}\n")
+            );
+            assert_eq!((outcome.status, outcome.out.len()), (1, 0));
+        }
+    };
+    let list = "Actions=c;b;a;a_b;x;;a\n";
+    let listed = "; listed are c, a";
+    told(
+        list,
+        "e",
+        &format!("e is not listed: it does not stand in Actions{listed}"),
+    );
+    told(
+        list,
+        "New letter",
+        &format!("New letter is not listed: it does not stand in Actions{listed}"),
+    );
+    told(
+        list,
+        "A",
+        &format!("A is not listed: it does not stand in Actions{listed}"),
+    );
+    told(
+        list,
+        "x",
+        &format!("x is not listed: there is no group Desktop Action x{listed}"),
+    );
+    told(
+        list,
+        "b",
+        &format!("b is not listed: the key Name is missing in the group Desktop Action b{listed}"),
+    );
+    told(
+        list,
+        "a_b",
+        &format!("a_b is not listed: \"_\" cannot stand in an identifier; it has letters A-Z a-z, digits and \"-\"{listed}"),
+    );
+    told(
+        list,
+        "",
+        &format!("'' is not listed: an identifier cannot be empty{listed}"),
+    );
+    told(
+        "Actions=\n",
+        "a",
+        "a is not listed: it does not stand in Actions; no action is listed",
+    );
+    told(
+        "",
+        "a",
+        "a is not listed: the key Actions is missing in the group Desktop Entry; no action is listed",
+    );
+    // Any bytes may be asked for, and what alters a terminal is not told as it is.
+    let folder = with_lines(format!("{list}{groups}").as_bytes());
+    let outcome = folder.expand(&[b"t", b"--action", b"\x1B\xFF"]);
+    assert!(outcome.told.starts_with(b"t: the action \\x1B"));
+    assert_eq!(outcome.status, 1);
+    // Of many the first are told.
+    let identifiers: Vec<String> = (0..20).map(|number| format!("a{number}")).collect();
+    let groups = identifiers
+        .iter()
+        .map(|action| format!("[Desktop Action {action}]\nName=n\n"));
+    let lines = format!(
+        "Actions={}\n{}",
+        identifiers.join(";"),
+        groups.collect::<String>()
+    );
+    let outcome = with_lines(lines.as_bytes()).expand(&[b"t", b"--action=a"]);
+    let told = String::from_utf8(outcome.told).unwrap();
+    assert!(
+        told.ends_with("; listed are a0, a1, a2, a3, a4, a5, a6, a7, a8, a9, ...\n"),
+        "{told}"
+    );
+}
+
+#[test]
+fn refusals_of_an_action_are_told_in_words() {
+    let without = "Actions=a\n[Desktop Action a]\nName=A\n";
+    with_lines(format!("Name=n\nExec=n\n{without}").as_bytes())
+        .expand(&[b"t", b"--action=a"])
+        .tells(1, &["t: there is no key Exec in a group Desktop Action a"]);
+    with_lines(format!("{without}Exec=view %c\n").as_bytes())
+        .expand(&[b"t", b"--action=a"])
+        .tells(
+            1,
+            &["t: there is no key Name in a group Desktop Entry; %c in Exec of the action a needs it"],
+        );
+    let folder = with_action("view --new", "");
+    let told = "t: Exec of the action new has none of %f, %F, %u and %U, so no file is handed";
+    folder
+        .expand(&[b"t", b"--action=new", b"a"])
+        .tells_and_writes(0, &[told], b"view --new\n");
+    folder
+        .expand(&[b"t", b"--action=new", b"--run=1", b"a", b"b"])
+        .tells(1, &["t: there is no such run; there is only run 0"]);
+    folder
+        .expand(&[b"t", b"--action=new", b""])
+        .tells(1, &["t: the name of a file"]);
+    folder
+        .expand(&[b"absent", b"--action=new"])
+        .tells(2, &["absent: cannot be read"]);
+    // What is handed in is asked before the list and the action.
+    let folder = with_lines(b"Actions=\\q\n");
+    folder
+        .expand(&[b"t", b"--action=x", b"--locale=_"])
+        .tells(1, &["t: the locale is not well written"]);
+    folder
+        .expand(&[b"t", b"--action=x", b""])
+        .tells(1, &["t: the name of a file"]);
+    folder
+        .expand(&[b"t", b"--action=x"])
+        .tells(1, &["t:3:9: \\q is no escape; "]);
+    with_lines(b"x\n")
+        .expand(&[b"t", b"--action=x"])
+        .tells(1, &["t:3:2: "]);
+}
+
+#[test]
 fn standard_input() {
     let folder = with_exec("view %k %f");
     let mut command = Command::new("sh");
@@ -340,6 +608,8 @@ fn wrong_usage() {
         &[b"t", b"--run="],
         &[b"t", b"--run=1", b"--run=1"],
         &[b"t", b"--run=1", b"--all"],
+        &[b"t", b"--action"],
+        &[b"t", b"--action=a", b"--action=b"],
         &[b"t", b"--runs", b"--null"],
         &[b"t", b"--json", b"--null"],
     ];

@@ -38,17 +38,19 @@ const SEVEN: [(&[u8], &str, &str); 7] = [
 
 #[test]
 fn every_command_tells_each_fault_in_its_own_words() {
-    let commands: [&[&[u8]]; 10] = [
+    let commands: [&[&[u8]]; 12] = [
         &[b"check", b"f"],
         &[b"check", b"--all", b"f"],
         &[b"complete", b"f"],
         &[b"get", b"f", b"Name"],
         &[b"list", b"f", b"Name", b"--locale", b"de"],
+        &[b"actions", b"f"],
         &[b"set", b"f", b"Name", b"y"],
         &[b"remove", b"f", b"Name"],
         &[b"undo", b"f"],
         &[b"redo", b"f"],
         &[b"expand", b"f"],
+        &[b"expand", b"f", b"--action", b"a"],
     ];
     for (file, place, words) in SEVEN {
         let folder = Folder::new().with(b"f", file);
@@ -417,7 +419,8 @@ fn messages_hold_nothing_that_alters_a_terminal() {
 /// The examples of docs/JSON.md are lines that the command writes.
 #[test]
 fn the_examples_of_the_document() {
-    let good = [T, b"Categories=Office;Viewer;\n"].concat();
+    let actions = b"Actions=new;\n[Desktop Action new]\nName=New window\nName[de]=Neues Fenster\n";
+    let good = [T, b"Categories=Office;Viewer;\n", actions].concat();
     let folder = Folder::new()
         .with(b"good.desktop", &good)
         .with(b"edited.desktop", T)
@@ -441,6 +444,7 @@ fn the_examples_of_the_document() {
     ]));
     write(folder.run(&[b"get", b"--json", b"good.desktop", b"Name"]));
     write(folder.run(&[b"list", b"--json", b"good.desktop", b"Categories"]));
+    write(folder.run(&[b"actions", b"--json", b"good.desktop", b"--locale=de"]));
     for words in [
         &["set", "edited.desktop", "Name", " Lire", "--person=Anna"][..],
         &["set", "edited.desktop", "Icon", "book", "--person=2"],

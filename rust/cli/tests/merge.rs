@@ -615,6 +615,14 @@ fn warnings() {
         "mine: warning: with this merge Exec can no longer be expanded: there is no key Name";
     unexpanded.merge(&["--output", "mine"]).tells(0, &[told]);
     assert_eq!(unexpanded.read("mine"), b"[Desktop Entry]\nExec=view %c\n");
+    let action = "Actions=a\n[Desktop Action a]\nName=A\n";
+    let unexpanded = entries(
+        &format!("Name=a\n{action}Exec=view\n"),
+        &format!("Name=a\n{action}Exec=view %c\n"),
+        &format!("{action}Exec=view\n"),
+    );
+    let told = "mine: warning: with this merge Exec of the action a can no longer be expanded: there is no key Name";
+    unexpanded.merge(&["--output", "mine"]).tells(0, &[told]);
     // What was not well before is not told.
     entries("Name=a\n", "Name=b\n", "").conflicts(&[
         "mine:2: conflict: Name in Desktop Entry: \"a\" became \"b\", but was removed in theirs",

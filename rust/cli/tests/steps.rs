@@ -143,6 +143,63 @@ fn an_exec_that_cannot_be_expanded_is_warned_of() {
     );
 }
 
+/// That of an action too, if it is listed.
+#[test]
+fn an_action_that_cannot_be_expanded_is_warned_of() {
+    let group = "--group=Desktop Action a";
+    let file = "[Desktop Entry]\nType=Application\nName=n\nExec=view\nActions=a;\n\
+        [Desktop Action a]\nName=A\nExec=view %c\n[Desktop Action b]\nName=B\nExec='\n";
+    let folder = Folder::new().with(b"t", file.as_bytes());
+    let exec = "warning: with this edit Exec of the action a can no longer be expanded: ";
+    let set = ["set", "t", "Exec", "view '%f'", group];
+    folder
+        .words(&set)
+        .tells(0, &[&format!("t:8:11: {exec}\"'\" cannot stand outside")]);
+    // It was wrong before: nothing new.
+    folder.does(&["set", "t", "Exec", "view \"", group]);
+    folder.does(&["undo", "t", "2"]);
+    folder.does(&[&set[..], &["--no-warn"]].concat());
+    folder.does(&["undo", "t"]);
+    folder
+        .words(&[&set[..], &["--dry-run"]].concat())
+        .tells_and_writes(
+            0,
+            &[&format!("t:8:11: {exec}")],
+            b"Exec in Desktop Action a: \"view %c\" would become \"view '%f'\"\n",
+        );
+    // Without the application's Name its %c has none.
+    folder.words(&["remove", "t", "Name"]).tells(
+        0,
+        &[
+            "t: warning: with this edit the file is no longer complete: ",
+            &format!("t: {exec}there is no key Name in a group Desktop Entry; %c in Exec of the action a"),
+        ],
+    );
+    folder.does(&["undo", "t"]);
+    // One that is not listed is no matter, until it is.
+    folder.does(&["set", "t", "Exec", "view '", "--group=Desktop Action b"]);
+    folder.words(&["set", "t", "Actions", "a;b;"]).tells(
+        0,
+        &["t:11:11: warning: with this edit Exec of the action b can no longer be expanded: "],
+    );
+    folder.does(&["remove", "t", "Exec", "--group=Desktop Action b"]);
+}
+
+/// Of very many the rest is counted.
+#[test]
+fn many_actions_that_cannot_be_expanded() {
+    let identifiers: Vec<String> = (0..20).map(|number| format!("a{number}")).collect();
+    let group = |action: &String| format!("[Desktop Action {action}]\nName=n\nExec=view %c\n");
+    let groups: String = identifiers.iter().map(group).collect();
+    let list = identifiers.join(";");
+    let file = format!("[Desktop Entry]\nType=Link\nURL=u\nName=n\nActions={list}\n{groups}");
+    let folder = Folder::new().with(b"t", file.as_bytes());
+    let mut starts = vec!["t: warning: with this edit Exec of the action a"; 11];
+    starts[0] = "t: warning: with this edit the file is no longer complete: ";
+    starts[10] = "t: warning: 11 more actions have an Exec that can no longer be expanded";
+    folder.words(&["remove", "t", "Name"]).tells(0, &starts);
+}
+
 /// A text that looks like the log's own words cannot be mistaken for them.
 #[test]
 fn the_log_quotes_texts() {

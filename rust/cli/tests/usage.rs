@@ -7,9 +7,9 @@ use std::process::{Command, Stdio};
 
 use common::{Folder, T};
 
-const COMMANDS: [&str; 13] = [
-    "check", "complete", "get", "list", "set", "remove", "batch", "undo", "redo", "log", "forget",
-    "merge", "expand",
+const COMMANDS: [&str; 14] = [
+    "check", "complete", "get", "list", "actions", "set", "remove", "batch", "undo", "redo", "log",
+    "forget", "merge", "expand",
 ];
 
 fn run(words: &[&str]) -> (i32, String, String) {
@@ -52,6 +52,8 @@ fn each_command_has_help() {
         (&["undo", "--help"], "Who you are: a number"),
         (&["redo", "--help"], "Who you are: a number"),
         (&["forget", "--help"], "<FILE> <N|--keep <N>>"),
+        (&["actions", "--help"], "`kveldrim expand FILE --action ID`"),
+        (&["expand", "--help"], "--action <ID>"),
         (&["batch", "--help"], "[OPTIONS] <FILE> [TABLE]"),
         (&["batch", "--help"], " action,group,key,text set,,Name,"),
     ] {
@@ -78,6 +80,8 @@ fn near_misses_are_named() {
         (&["get", "t", "Name", "--locael=de"], "--locale"),
         (&["set", "t", "Name", "x", "--dryrun"], "--dry-run"),
         (&["bacth", "t"], "batch"),
+        (&["action", "t"], "actions"),
+        (&["expand", "t", "--actions=new"], "--action"),
         (&["batch", "t", "--all-or-none"], "--all-or-nothing"),
     ] {
         let (status, out, told) = run(words);
@@ -104,6 +108,7 @@ fn completions() {
     let (_, script, _) = run(&["completions", "zsh"]);
     let mut lines = script.lines().filter(|line| line.contains("--persons="));
     assert!(lines.any(|line| line.contains(":FILE:_files")), "{script}");
+    assert!(script.contains("'--action=["), "{script}");
     assert_eq!(run(&["completions", "cmd"]).0, 2);
 }
 
@@ -122,6 +127,13 @@ fn bad_usage_is_2() {
         &[b"get", b"t", b"Name", b"--raw=1"],
         &[b"list", b"t", b"Name", b"--raw"],
         &[b"list", b"t", b"Name", b"--null", b"--json"],
+        &[b"actions"],
+        &[b"actions", b"t", b"t"],
+        &[b"actions", b"t", b"--null", b"--json"],
+        &[b"actions", b"t", b"--group", b"x"],
+        &[b"actions", b"t", b"--action", b"x"],
+        &[b"actions", b"t", b"--locale"],
+        &[b"actions", b"t", b"--no-warn=1"],
         &[b"set", b"t", b"Name"],
         &[b"set", b"t", b"Name", b"a", b"b"],
         &[b"set", b"t", b"Name", b"-a"],

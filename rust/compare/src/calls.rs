@@ -5,10 +5,11 @@ use std::collections::BTreeMap;
 use kveldrim::ffi;
 use reference::Refusal;
 
+use crate::actions;
 use crate::edits::{self, List};
 use crate::encodings::Encodings;
 use crate::expand::Question;
-use crate::lent::{Lent, Numbers};
+use crate::lent::{Lent, Numbers, Output};
 use crate::persons;
 use crate::random::Random;
 
@@ -22,7 +23,9 @@ pub enum Case {
     File { file: Vec<u8>, asks: Vec<Ask> },
     /// Bytes to read as text and as a list, and to write as text.
     Text(Vec<u8>),
-    /// An expansion of a file's Exec.
+    /// The actions of a file.
+    Actions(actions::Question),
+    /// An expansion of a file's Exec, or of an action's.
     Expand(Box<Question>),
     /// Calls that edit, one after another.
     Edits(List),
@@ -45,6 +48,7 @@ impl Case {
         match self {
             Case::File { file, .. } => file,
             Case::Text(text) => text,
+            Case::Actions(question) => &question.file,
             Case::Expand(question) => &question.file,
             Case::Edits(list) => list.file(),
             Case::Person(question) => &question.journal,
@@ -59,6 +63,7 @@ impl Case {
                 asks: asks.clone(),
             },
             Case::Text(_) => Case::Text(bytes),
+            Case::Actions(question) => Case::Actions(question.about(bytes)),
             Case::Expand(question) => Case::Expand(Box::new(question.about(bytes))),
             Case::Edits(list) => Case::Edits(list.about(&bytes)),
             Case::Person(question) => Case::Person(question.about(bytes)),
@@ -101,6 +106,7 @@ impl Case {
                 asker.write_text(text)?;
                 asker.read_list(text)
             }
+            Case::Actions(question) => question.compare(asker),
             Case::Expand(question) => question.compare(asker),
             Case::Edits(list) => asker.edits(list, &edits::proved),
             Case::Person(question) => asker.person(question, &persons::proved),
@@ -170,13 +176,17 @@ fn part(
 pub struct Asker {
     random: Random,
     pub tally: Tally,
-    /// What encodings have to do with choices, by where these are made: in `choose`, for Name and for Icon of an expansion.
+    /// What encodings have to do with choices, by where these are made: in `choose`, for Name and for Icon of an expansion, for
+    /// the label of an action.
     pub encodings: BTreeMap<&'static str, Encodings>,
 }
 
 /// A call that finds a value in a file, the first of its arguments: it gets each by pointer and length, and pointers to its place
 /// and byte and the two ends.
 pub type ValueCall<'a, const N: usize> = &'a dyn Fn([(*const u8, usize); N], [*mut u64; 6]) -> u32;
+
+/// A call with an output: it gets its inputs by pointer and length.
+pub type OutputCall<'a, const N: usize> = &'a dyn Fn([(*const u8, usize); N], Output) -> u32;
 
 impl Asker {
     pub fn new(seed: u64) -> Asker {
@@ -336,7 +346,7 @@ impl Asker {
         let whole = reference::text::unescape(raw);
         let length = whole.as_ref().map_or(raw.len(), Vec::len);
         let outcome = self
-            .output_calls(
+            .text_calls(
                 "read_text",
                 raw,
                 length,
@@ -351,7 +361,7 @@ impl Asker {
         let whole = reference::text::escape(text);
         let length = whole.as_ref().map_or(text.len(), Vec::len);
         let outcome = self
-            .output_calls(
+            .text_calls(
                 "write_text",
                 text,
                 length,
@@ -368,7 +378,7 @@ impl Asker {
             elements.iter().map(|element| 6 + element.len()).sum()
         });
         let outcome = self
-            .output_calls(
+            .text_calls(
                 "read_list",
                 raw,
                 length,
@@ -379,8 +389,8 @@ impl Asker {
         named("read_list", &[], outcome)
     }
 
-    /// A call with an output, which is lent in several sizes: none, some, one byte too few, just enough, more.
-    fn output_calls(
+    /// A call that reads bytes and writes others: without room for them too.
+    fn text_calls(
         &mut self,
         name: &'static str,
         input: &[u8],
@@ -388,32 +398,68 @@ impl Asker {
         call: ffi::OutputCall,
         reference: fn(&[u8], &mut [u8]) -> Result<usize, Refusal>,
     ) -> Result<(), String> {
-        let some = self.random.below(length + 1);
+        let sizes = [vec![0], self.sizes(length)].concat();
+        self.output_calls(
+            name,
+            [input],
+            sizes,
+            &|[(input, length)], output| {
+                let (out, out_len) = output.out;
+                // SAFETY: the bytes and the numbers outlive the call, which is lent no byte.
+                unsafe {
+                    *output.byte = 0;
+                    call(input, length, out, out_len, output.place, output.written)
+                }
+            },
+            &|out| reference(input, out),
+        )
+    }
+
+    /// The sizes of an output for an answer of so many bytes: some, one byte too few, just enough, more.
+    fn sizes(&mut self, length: usize) -> Vec<usize> {
+        let some = self.random.below(length.max(1));
         let more = length + self.random.within(1, 40);
-        let mut sizes = vec![0, some, length.saturating_sub(1), length, more];
+        vec![some, length.saturating_sub(1), length, more]
+    }
+
+    /// The sizes of an output for what a call answers with room enough; any size where it is refused.
+    pub(crate) fn sizes_for(&mut self, answer: &Result<Vec<u8>, Refusal>) -> Vec<usize> {
+        match answer {
+            Ok(records) => self.sizes(records.len()),
+            Err(_) => vec![self.random.below(100)],
+        }
+    }
+
+    /// A call with an output, which is lent in each of the sizes, with every buffer between guards.
+    pub(crate) fn output_calls<const N: usize>(
+        &mut self,
+        name: &'static str,
+        inputs: [&[u8]; N],
+        mut sizes: Vec<usize>,
+        call: OutputCall<N>,
+        reference: &dyn Fn(&mut [u8]) -> Result<usize, Refusal>,
+    ) -> Result<(), String> {
         sizes.dedup();
         for size in sizes {
-            let lent = self.lend(input);
+            let lent = inputs.map(|bytes| self.lend(bytes));
             let mut out = Lent::output(size, &mut self.random);
             let mut expected_out = out.bytes().to_vec();
-            let expected = reference(input, &mut expected_out);
+            let expected = reference(&mut expected_out);
             self.count(name, &expected);
-            let mut numbers = Numbers::new().without_byte();
-            let [place, _, written, ..] = numbers.pointers();
-            // SAFETY: the bytes and the numbers outlive the call.
-            let result = unsafe {
-                call(
-                    lent.pointer(),
-                    lent.len(),
-                    out.pointer_mut(),
-                    out.len(),
-                    place,
-                    written,
-                )
+            let mut numbers = Numbers::new();
+            let [place, byte, written, ..] = numbers.pointers();
+            let output = Output {
+                out: (out.pointer_mut(), out.len()),
+                place,
+                byte,
+                written,
             };
+            let slices = lent.each_ref().map(|lent| (lent.pointer(), lent.len()));
+            let result = call(slices, output);
+            let mut kept = lent.iter().zip(inputs);
             numbers
                 .tell(result, &expected.map(|written| vec![written as u64]))
-                .and_then(|()| lent.holds(input))
+                .and_then(|()| kept.try_for_each(|(lent, bytes)| lent.holds(bytes)))
                 .and_then(|()| out.holds(&expected_out))
                 .map_err(|difference| format!("with room for {size} bytes\n{difference}"))?;
         }

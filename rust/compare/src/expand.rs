@@ -3,17 +3,18 @@
 
 use std::fmt;
 
-use kveldrim::ffi::kveldrim_expand;
+use kveldrim::ffi::{kveldrim_expand, kveldrim_expand_action};
+use kveldrim::DESKTOP_ENTRY;
 use reference::Refusal;
 
 use crate::calls::{refusal, Asker};
 use crate::files::spoil;
-use crate::lent::{Lent, Numbers};
+use crate::lent::Output;
 use crate::pieces::{self, MULLER};
 use crate::random::Random;
 
 /// "A file is at most 32,768 bytes", "over 65,536 bytes in all", "the location is at most 4,096 bytes".
-const FILE_BOUND: usize = 32_768;
+pub(crate) const FILE_BOUND: usize = 32_768;
 const LIST_BOUND: usize = 65_536;
 const LOCATION_BOUND: usize = 4_096;
 
@@ -21,63 +22,62 @@ const LOCATION_BOUND: usize = 4_096;
 #[derive(Clone)]
 pub struct Question {
     pub file: Vec<u8>,
+    /// The action that is expanded; none for the application itself.
+    pub action: Option<Vec<u8>>,
     pub locale: Vec<u8>,
     pub location: Vec<u8>,
     /// The items, where the list is made of them alone.
     pub items: Option<Vec<Vec<u8>>>,
     pub list: Vec<u8>,
     pub run: u64,
-    /// For the sizes of the output and for what stands beside the buffers.
-    pub seed: u64,
 }
 
-/// What the call is handed: file, locale, location and list by pointer and length, the run, the output and its numbers.
+/// What the call is handed: file, locale, location and list by pointer and length, perhaps an action too, the run, and where it
+/// writes.
 pub struct Given {
     pub inputs: [(*const u8, usize); 4],
+    pub action: Option<(*const u8, usize)>,
     pub run: u64,
-    pub out: (*mut u8, usize),
-    pub place: *mut u64,
-    pub byte: *mut u64,
-    pub written: *mut u64,
+    pub output: Output,
 }
 
 /// The call of the proved library.
 pub fn proved(given: &Given) -> u32 {
     let [file, locale, location, list] = given.inputs;
+    let Output {
+        out,
+        place,
+        byte,
+        written,
+    } = given.output;
     // SAFETY: the bytes and the numbers outlive the call.
     unsafe {
-        kveldrim_expand(
-            file.0,
-            file.1,
-            locale.0,
-            locale.1,
-            location.0,
-            location.1,
-            list.0,
-            list.1,
-            given.run,
-            given.out.0,
-            given.out.1,
-            given.place,
-            given.byte,
-            given.written,
-        )
+        match given.action {
+            None => kveldrim_expand(
+                file.0, file.1, locale.0, locale.1, location.0, location.1, list.0, list.1,
+                given.run, out.0, out.1, place, byte, written,
+            ),
+            Some(action) => kveldrim_expand_action(
+                file.0, file.1, action.0, action.1, locale.0, locale.1, location.0, location.1,
+                list.0, list.1, given.run, out.0, out.1, place, byte, written,
+            ),
+        }
     }
 }
 
 type Told<A> = Result<A, Refusal>;
 
 impl Question {
-    /// A question without locale, location and items.
-    pub fn of(file: Vec<u8>, seed: u64) -> Question {
+    /// A question without action, locale, location and items.
+    pub fn of(file: Vec<u8>) -> Question {
         Question {
             file,
+            action: None,
             locale: Vec::new(),
             location: Vec::new(),
             items: Some(Vec::new()),
             list: Vec::new(),
             run: 0,
-            seed,
         }
     }
 
@@ -99,6 +99,22 @@ impl Question {
         }
     }
 
+    /// The name of the call.
+    fn name(&self) -> &'static str {
+        match self.action {
+            None => "expand",
+            Some(_) => "expand_action",
+        }
+    }
+
+    /// The group whose Exec and Icon are taken.
+    fn group(&self) -> Vec<u8> {
+        match &self.action {
+            None => DESKTOP_ENTRY.to_vec(),
+            Some(action) => reference::action_group(action),
+        }
+    }
+
     /// Asks both with outputs of several sizes, then the bindings, and tells the first difference.
     pub fn compare(&self, asker: &mut Asker) -> Result<(), String> {
         self.compare_by(&proved, asker)
@@ -110,21 +126,25 @@ impl Question {
         expander: &dyn Fn(&Given) -> u32,
         asker: &mut Asker,
     ) -> Result<(), String> {
-        self.count_encodings(asker);
-        self.all_sizes(expander, asker)
-            .and_then(|()| self.bindings())
+        let expected = self.records();
+        self.count(&expected, asker);
+        self.all_sizes(&expected, expander, asker)
+            .and_then(|()| self.bindings(&expected))
             .map_err(|difference| format!("{self}\n{difference}"))
     }
 
-    /// Counts the choices of Name and Icon, where the expansion has an answer and their codes stand in Exec.
-    fn count_encodings(&self, asker: &mut Asker) {
-        let (file, locale, group) = (&self.file, &self.locale, kveldrim::DESKTOP_ENTRY);
-        let (Ok(_), Ok((from, to))) = (self.records(), reference::lookup(file, group, b"Exec"))
-        else {
+    /// Counts the choices of Name and Icon, where the expansion has an answer and their codes stand in Exec; else why an action
+    /// is refused.
+    fn count(&self, expected: &Told<Vec<u8>>, asker: &mut Asker) {
+        let (file, locale, group) = (&self.file, &self.locale, &self.group());
+        if let Some(reason) = self.reason(expected) {
+            asker.count(reason, expected);
+        }
+        let (Ok(_), Ok((from, to))) = (expected, reference::lookup(file, group, b"Exec")) else {
             return;
         };
         let exec = String::from_utf8_lossy(&file[from..to]).replace("%%", "");
-        for (key, code) in [("Name", "%c"), ("Icon", "%i")] {
+        for (group, key, code) in [(DESKTOP_ENTRY, "Name", "%c"), (group, "Icon", "%i")] {
             if exec.contains(code) {
                 let answer = reference::choose(file, group, key.as_bytes(), locale);
                 asker.count_encodings(key, file, locale, answer);
@@ -132,23 +152,52 @@ impl Question {
         }
     }
 
-    /// One byte too few, just enough and more where there is an answer; else any size.
-    fn all_sizes(&self, expander: &dyn Fn(&Given) -> u32, asker: &mut Asker) -> Result<(), String> {
-        let random = &mut Random::new(self.seed);
-        let sizes = match self.records() {
-            Ok(records) => vec![
-                random.below(records.len()),
-                records.len() - 1,
-                records.len(),
-                records.len() + random.within(1, 40),
-            ],
-            Err(_) => vec![random.below(100)],
+    /// What an 8 or a 9 of an action is about.
+    fn reason(&self, expected: &Told<Vec<u8>>) -> Option<&'static str> {
+        let action = self.action.as_ref()?;
+        let number = expected.as_ref().err()?.number;
+        let listed = reference::listed(&self.file);
+        let text = |answer: Told<(usize, usize)>| {
+            answer.and_then(|(from, to)| reference::text::unescape(&self.file[from..to]))
         };
-        for size in sizes {
-            self.one_size(size, expander, asker, random)
-                .map_err(|difference| format!("with room for {size} bytes\n{difference}"))?;
-        }
-        Ok(())
+        let exec = text(reference::lookup(&self.file, &self.group(), b"Exec"));
+        let name = reference::choose(&self.file, DESKTOP_ENTRY, b"Name", &self.locale);
+        Some(match (number, listed, exec) {
+            (8, Ok(listed), _) if !listed.contains(action) => "expand_action, not listed",
+            (8, _, Err(_)) => "expand_action, no Exec",
+            (8, ..) if self.runs().is_ok_and(|runs| self.run >= runs) => "expand_action, no run",
+            (8, ..) => "expand_action, no Name",
+            (9, Err(_), _) => "expand_action, escape of Actions",
+            (9, _, Err(_)) => "expand_action, escape of Exec",
+            (9, ..) if text(name).is_err() => "expand_action, escape of Name",
+            (9, ..) => "expand_action, escape of Icon",
+            _ => return None,
+        })
+    }
+
+    /// The call in each size of the output.
+    fn all_sizes(
+        &self,
+        expected: &Told<Vec<u8>>,
+        expander: &dyn Fn(&Given) -> u32,
+        asker: &mut Asker,
+    ) -> Result<(), String> {
+        let sizes = asker.sizes_for(expected);
+        let action = self.action.as_deref().unwrap_or_default();
+        asker.output_calls(
+            self.name(),
+            [&self.file, &self.locale, &self.location, &self.list, action],
+            sizes,
+            &|[file, locale, location, list, action], output| {
+                expander(&Given {
+                    inputs: [file, locale, location, list],
+                    action: self.action.as_ref().map(|_| action),
+                    run: self.run,
+                    output,
+                })
+            },
+            &|out| self.reference(out),
+        )
     }
 
     /// What the reference writes where there is room enough.
@@ -164,54 +213,45 @@ impl Question {
 
     fn reference(&self, out: &mut [u8]) -> Told<usize> {
         let (file, locale, location) = (&self.file, &self.locale, &self.location);
-        reference::expand(file, locale, location, &self.list, self.run, out)
+        let (list, run) = (&self.list, self.run);
+        match &self.action {
+            None => reference::expand(file, locale, location, list, run, out),
+            Some(action) => {
+                reference::expand_action(file, action, locale, location, list, run, out)
+            }
+        }
     }
 
-    /// The call itself, with every buffer between guards.
-    fn one_size(
-        &self,
-        size: usize,
-        expander: &dyn Fn(&Given) -> u32,
-        asker: &mut Asker,
-        random: &mut Random,
-    ) -> Result<(), String> {
-        let mut out = Lent::output(size, random);
-        let mut expected_out = out.bytes().to_vec();
-        let expected = self.reference(&mut expected_out);
-        asker.count("expand", &expected);
-        let inputs = [&self.file, &self.locale, &self.location, &self.list];
-        let lent = inputs.map(|bytes| Lent::new(bytes, random));
-        let mut numbers = Numbers::new();
-        let [place, byte, written, ..] = numbers.pointers();
-        let result = expander(&Given {
-            inputs: lent.each_ref().map(|lent| (lent.pointer(), lent.len())),
-            run: self.run,
-            out: (out.pointer_mut(), out.len()),
-            place,
-            byte,
-            written,
-        });
-        numbers.tell(result, &expected.map(|written| vec![written as u64]))?;
-        for (lent, bytes) in lent.iter().zip(inputs) {
-            lent.holds(bytes)?;
+    /// The number of runs by the reference.
+    fn runs(&self) -> Told<u64> {
+        let (file, locale, location) = (&self.file, &self.locale, &self.location);
+        match &self.action {
+            None => reference::runs(file, locale, location, &self.list),
+            Some(action) => reference::action_runs(file, action, locale, location, &self.list),
         }
-        out.holds(&expected_out)
     }
 
     /// Whether the bindings give the same arguments and the same number of runs.
-    fn bindings(&self) -> Result<(), String> {
+    fn bindings(&self, expected: &Told<Vec<u8>>) -> Result<(), String> {
         let Some(items) = &self.items else {
             return Ok(());
         };
-        let (file, locale, location) = (&self.file, &self.locale, &self.location);
-        let expected = self.records().map(|records| split(&records));
-        let arguments = kveldrim::expand_args(file, locale, location, items, self.run);
+        let (file, locale, location, run) = (&self.file, &self.locale, &self.location, self.run);
+        let arguments = match &self.action {
+            None => kveldrim::expand_args(file, locale, location, items, run),
+            Some(action) => {
+                kveldrim::expand_action_args(file, action, locale, location, items, run)
+            }
+        };
+        let expected = expected.clone().map(|records| split(&records));
         same("arguments", told(arguments), &expected)?;
         // The bindings also ask for Name and Icon before they tell a number of runs.
         if expected.is_ok() {
-            let expected = reference::runs(file, locale, location, &self.list);
-            let runs = kveldrim::runs(file, locale, location, items);
-            same("runs", told(runs), &expected)?;
+            let runs = match &self.action {
+                None => kveldrim::runs(file, locale, location, items),
+                Some(action) => kveldrim::action_runs(file, action, locale, location, items),
+            };
+            same("runs", told(runs), &self.runs())?;
         }
         Ok(())
     }
@@ -219,11 +259,15 @@ impl Question {
 
 impl fmt::Display for Question {
     fn fmt(&self, f: &mut fmt::Formatter<'_>) -> fmt::Result {
+        write!(f, "{}", self.name())?;
+        if let Some(action) = &self.action {
+            write!(f, " \"{}\"", action.escape_ascii())?;
+        }
         let (locale, location) = (self.locale.escape_ascii(), self.location.escape_ascii());
         let (list, run) = (self.list.escape_ascii(), self.run);
         write!(
             f,
-            "expand, locale \"{locale}\", location \"{location}\", list \"{list}\", run {run}"
+            ", locale \"{locale}\", location \"{location}\", list \"{list}\", run {run}"
         )
     }
 }
@@ -245,15 +289,15 @@ fn same<A: PartialEq + fmt::Debug>(
     ))
 }
 
-/// The arguments in the records of an accepted expansion.
-fn split(mut records: &[u8]) -> Vec<Vec<u8>> {
-    let mut arguments = Vec::new();
+/// The bytes of each record that an accepted call wrote.
+pub(crate) fn split(mut records: &[u8]) -> Vec<Vec<u8>> {
+    let mut items = Vec::new();
     while let Some(length) = records.first_chunk() {
         let length = u32::from_le_bytes(*length) as usize;
-        arguments.push(records[6..length].to_vec());
+        items.push(records[6..length].to_vec());
         records = &records[length..];
     }
-    arguments
+    items
 }
 
 /// Any question, with one thing in `once` wrong: in the command, and in what stands around it.
@@ -269,10 +313,12 @@ pub fn question(random: &mut Random, once: usize) -> Question {
     of_file(file, random)
 }
 
+/// Commands with Name or Icon in them.
+const NAMED: &[&str] = &["v %c %f", "v %i %u", "v %i --name=%c %f", "v %c%c %u %i %i"];
+
 /// A question whose answer has Name or Icon in it.
 pub fn of_names(random: &mut Random) -> Question {
-    let execs = ["v %c %f", "v %i %u", "v %i --name=%c %f", "v %c%c %u %i %i"];
-    let file = file_of(random.pick(&execs).as_bytes(), random, pieces::SOUND);
+    let file = file_of(random.pick(NAMED).as_bytes(), random, pieces::SOUND);
     of_file(file, random)
 }
 
@@ -284,7 +330,7 @@ pub fn of_file(file: Vec<u8>, random: &mut Random) -> Question {
 
 /// A question of this file and these items, with the other arguments right mostly.
 fn asked(file: Vec<u8>, items: Vec<Vec<u8>>, random: &mut Random) -> Question {
-    let mut question = Question::of(file, random.number());
+    let mut question = Question::of(file);
     question.locale = locale(random);
     question.location = location(random);
     question.run = run(items.len(), random);
@@ -442,8 +488,16 @@ fn wild_command(random: &mut Random) -> Vec<u8> {
     bytes.collect()
 }
 
+/// The raw value of a command, with Name or Icon in it in one of two; one piece in `once` is wrong.
+pub(crate) fn raw_command(random: &mut Random, once: usize) -> Vec<u8> {
+    match random.once_in(2) {
+        true => random.pick(NAMED).into(),
+        false => raw(&command(random, once), random),
+    }
+}
+
 /// The raw value of a text: as it is written, or with an escape for a space now and then.
-fn raw(text: &[u8], random: &mut Random) -> Vec<u8> {
+pub(crate) fn raw(text: &[u8], random: &mut Random) -> Vec<u8> {
     let mut raw = Vec::new();
     for byte in text {
         match byte {
@@ -461,16 +515,31 @@ fn raw(text: &[u8], random: &mut Random) -> Vec<u8> {
 const WRONG_RAW: &[&str] = &["\\", "\\q", "\\;", "\\\u{FC}", "a\\", "\\S"];
 
 /// A value with a wrong escape in it.
-fn wrong_raw(value: &[u8], random: &mut Random) -> Vec<u8> {
+pub(crate) fn wrong_raw(value: &[u8], random: &mut Random) -> Vec<u8> {
     let mut wrong = value.to_vec();
     let at = random.below(wrong.len() + 1);
     wrong.splice(at..at, random.pick(WRONG_RAW).bytes());
     wrong
 }
 
-/// A file with this Exec, mostly: with Name and Icon there, missing, localized or wrong.
+/// A file with this Exec, mostly.
 fn file_of(exec: &[u8], random: &mut Random, once: usize) -> Vec<u8> {
-    let mut lines = vec![b"Type=Application\n".to_vec()];
+    let mut lines = lines_of(exec, random, once);
+    lines.push(b"Type=Application\n".to_vec());
+    random.shuffle(&mut lines);
+    let mut file = [b"[Desktop Entry]\n", &lines.concat()[..]].concat();
+    if random.once_in(6) {
+        file.extend(b"[Desktop Action a]\nExec=action %F\nName=Action\nIcon=action\n");
+    }
+    if random.once_in(8) {
+        file.pop();
+    }
+    file
+}
+
+/// The lines of a group with this Exec, mostly: with Name and Icon there, missing, localized or wrong.
+pub(crate) fn lines_of(exec: &[u8], random: &mut Random, once: usize) -> Vec<Vec<u8>> {
+    let mut lines = Vec::new();
     let exec = match random.once_in(once.saturating_mul(2)) {
         true => wrong_raw(exec, random),
         false => exec.to_vec(),
@@ -483,15 +552,7 @@ fn file_of(exec: &[u8], random: &mut Random, once: usize) -> Vec<u8> {
     }
     lines.extend(values_of("Name", random, once));
     lines.extend(values_of("Icon", random, once));
-    random.shuffle(&mut lines);
-    let mut file = [b"[Desktop Entry]\n", &lines.concat()[..]].concat();
-    if random.once_in(6) {
-        file.extend(b"[Desktop Action a]\nExec=action %F\nName=Action\nIcon=action\n");
-    }
-    if random.once_in(8) {
-        file.pop();
-    }
-    file
+    lines
 }
 
 const NAMES: &[&str] = &[
@@ -532,7 +593,7 @@ fn values_of(key: &str, random: &mut Random, once: usize) -> Vec<Vec<u8>> {
     postfixes.into_iter().map(&mut line).collect()
 }
 
-fn locale(random: &mut Random) -> Vec<u8> {
+pub(crate) fn locale(random: &mut Random) -> Vec<u8> {
     match random.below(12) {
         0 => pieces::wrong_locale(random),
         1 => pieces::locale(random),
@@ -655,7 +716,7 @@ pub fn large_question(random: &mut Random) -> Question {
 }
 
 /// A comment that makes the file as long as it may be, or a byte longer.
-fn fill_file(file: &mut Vec<u8>, random: &mut Random) {
+pub(crate) fn fill_file(file: &mut Vec<u8>, random: &mut Random) {
     let length = FILE_BOUND + random.below(2);
     if file.last() != Some(&b'\n') {
         file.push(b'\n');

@@ -1,4 +1,5 @@
-//! What is lent to a call: bytes and numbers with guards on both sides, so that a stray write shows.
+//! What is lent to a call: bytes and numbers with guards on both sides, so that a stray write shows; and what a call written here
+//! makes of it.
 
 use reference::Refusal;
 
@@ -86,6 +87,54 @@ impl Lent {
         }
         Ok(())
     }
+}
+
+/// The bytes that are lent to a call.
+pub fn bytes<'a>((pointer, length): (*const u8, usize)) -> &'a [u8] {
+    match length {
+        0 => &[],
+        // SAFETY: so many bytes are lent, and for longer than they are used here.
+        _ => unsafe { std::slice::from_raw_parts(pointer, length) },
+    }
+}
+
+/// Where a call with an output writes: the output by pointer and length, and its numbers.
+#[derive(Clone, Copy)]
+pub struct Output {
+    pub out: (*mut u8, usize),
+    pub place: *mut u64,
+    pub byte: *mut u64,
+    pub written: *mut u64,
+}
+
+impl Output {
+    /// What a function makes of the output, told as a call tells it.
+    pub fn told(self, write: impl FnOnce(&mut [u8]) -> Result<usize, Refusal>) -> u32 {
+        let out = match self.out {
+            (_, 0) => &mut [],
+            // SAFETY: so many bytes are lent.
+            (pointer, length) => unsafe { std::slice::from_raw_parts_mut(pointer, length) },
+        };
+        let written = write(out).map(|written| [written]);
+        tell(written, [self.place, self.byte], [self.written])
+    }
+}
+
+/// Writes an answer's numbers, or a refusal's, and gives the result of the call.
+pub fn tell<const N: usize>(
+    answer: Result<[usize; N], Refusal>,
+    [place, byte]: [*mut u64; 2],
+    numbers: [*mut u64; N],
+) -> u32 {
+    let refusal = answer.err().unwrap_or(Refusal::new(0));
+    // SAFETY: the numbers are lent.
+    unsafe {
+        (*place, *byte) = (refusal.place, refusal.byte);
+        for (to, number) in numbers.into_iter().zip(answer.into_iter().flatten()) {
+            *to = number as u64;
+        }
+    }
+    refusal.number
 }
 
 /// The numbers of a call: its place, its byte, up to three more, which may go in as well as come out, and one more that comes

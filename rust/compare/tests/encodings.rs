@@ -1,5 +1,6 @@
 //! What 02's A3 says of keys that carry an encoding, in every short file of them: the library and the reference must agree.
 
+use compare::actions;
 use compare::calls::{Ask, Asker};
 use compare::expand::Question;
 use compare::run::have_encodings;
@@ -97,7 +98,7 @@ fn commands() {
         let names = lines("Name", postfixes.iter());
         let icons = lines("Icon", postfixes.iter().rev());
         let file = format!("[Desktop Entry]\n{names}{icons}Exec=v %c %i\n");
-        let mut question = Question::of(file.into_bytes(), 3);
+        let mut question = Question::of(file.into_bytes());
         question.locale = locale.into();
         if let Err(difference) = question.compare(&mut asker) {
             panic!("{difference}\ninput: {}", question.file.escape_ascii());
@@ -106,4 +107,40 @@ fn commands() {
     let all = (LISTS * ASKING) as u64;
     assert_eq!(asker.tally.get(&("expand", 0)), Some(&(2 * all)));
     have_encodings("commands", &asker, &[("Name", 1_000), ("Icon", 1_000)]);
+}
+
+/// The label of an action, and its command: Name is the application's, Icon is the action's, with the same postfixes the other
+/// way round.
+#[test]
+fn labels_and_commands_of_actions() {
+    let mut asker = Asker::new(4);
+    each(|postfixes, locale| {
+        let names = lines("Name", postfixes.iter());
+        let others = [("Name", "label "), ("Icon", "")].map(|(key, value)| {
+            let lines = lines(key, postfixes.iter().rev());
+            lines.replace('=', &format!("={value}"))
+        });
+        let file = format!(
+            "[Desktop Entry]\n{names}Actions=a\n[Desktop Action a]\n{}Exec=v %c %i\n",
+            others.concat()
+        );
+        let list = actions::Question {
+            file: file.clone().into(),
+            locale: locale.into(),
+        };
+        let mut command = Question::of(file.into());
+        command.action = Some(b"a".to_vec());
+        command.locale = locale.into();
+        let asker = &mut asker;
+        let compared = list.compare(asker).and_then(|()| command.compare(asker));
+        if let Err(difference) = compared {
+            panic!("{difference}\ninput: {}", list.file.escape_ascii());
+        }
+    });
+    let all = (LISTS * ASKING) as u64;
+    for call in ["actions", "expand_action"] {
+        assert_eq!(asker.tally.get(&(call, 0)), Some(&(2 * all)), "{call}");
+    }
+    let choices = [("label", 1_000), ("Name", 1_000), ("Icon", 1_000)];
+    have_encodings("labels_and_commands_of_actions", &asker, &choices);
 }

@@ -70,7 +70,7 @@ fn short_commands() {
             let exec = short(number, length);
             for start in ["", "a "] {
                 let file = format!("[Desktop Entry]\nName=n\nIcon=i\nExec={start}{exec}");
-                let question = Question::of(file.into_bytes(), number as u64);
+                let question = Question::of(file.into_bytes());
                 if let Err(difference) = question.compare(&mut asker) {
                     panic!("{start}{exec}: {difference}");
                 }

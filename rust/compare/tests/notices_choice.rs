@@ -5,6 +5,7 @@ use compare::edits;
 use compare::encodings::encoding;
 use compare::expand::{self, of_names};
 use compare::files::{self, Entry};
+use compare::lent::{bytes, tell};
 use compare::lists;
 use compare::random::Random;
 use kveldrim::{ffi, DESKTOP_ENTRY};
@@ -12,32 +13,6 @@ use reference::{candidates, strip_encoding, Refusal};
 
 /// How a value is found: its two ends, by a file and what is asked of it.
 type Finding<const N: usize> = fn([&[u8]; N]) -> Result<(usize, usize), Refusal>;
-
-/// The bytes that are lent.
-fn bytes<'a>((pointer, length): (*const u8, usize)) -> &'a [u8] {
-    match length {
-        0 => &[],
-        // SAFETY: so many bytes are lent, and for longer than they are used here.
-        _ => unsafe { std::slice::from_raw_parts(pointer, length) },
-    }
-}
-
-/// Writes an answer's numbers, or a refusal's, and gives the result of the call.
-fn tell<const N: usize>(
-    answer: Result<[usize; N], Refusal>,
-    [place, byte]: [*mut u64; 2],
-    numbers: [*mut u64; N],
-) -> u32 {
-    let refusal = answer.err().unwrap_or(Refusal::new(0));
-    // SAFETY: the numbers are lent.
-    unsafe {
-        (*place, *byte) = (refusal.place, refusal.byte);
-        for (to, number) in numbers.into_iter().zip(answer.into_iter().flatten()) {
-            *to = number as u64;
-        }
-    }
-    refusal.number
-}
 
 /// The call of such a finding.
 fn call<const N: usize>(
@@ -314,17 +289,8 @@ fn expand_by(given: &expand::Given, key: &[u8], choice: Finding<4>) -> u32 {
     if let (Ok((from, to)), Ok(found)) = (right, choice([file, DESKTOP_ENTRY, key, locale])) {
         other.splice(from..to, file[found.0..found.1].iter().copied());
     }
-    let out = match given.out {
-        (_, 0) => &mut [],
-        // SAFETY: so many bytes are lent.
-        (pointer, length) => unsafe { std::slice::from_raw_parts_mut(pointer, length) },
-    };
-    let written = reference::expand(&other, locale, location, list, given.run, out);
-    tell(
-        written.map(|written| [written]),
-        [given.place, given.byte],
-        [given.written],
-    )
+    let expand = |out: &mut [u8]| reference::expand(&other, locale, location, list, given.run, out);
+    given.output.told(expand)
 }
 
 #[test]

@@ -6,12 +6,13 @@ use std::{env, fs};
 
 use compare::calls::{Asker, Case};
 use compare::random::Random;
-use compare::run::{have_encodings, run, Outcomes};
-use compare::{expand, files, lists};
+use compare::run::{came_up, have_encodings, run, Outcomes};
+use compare::{actions, expand, files, lists};
 use reference::lines::{read_line, split_lines, Line};
 
-/// Fewer files are not worth a test.
+/// Fewer files are not worth a test, nor fewer with actions.
 const LEAST: usize = 30;
+const LEAST_WITH_ACTIONS: usize = 5;
 
 fn folder() -> PathBuf {
     let fetched = Path::new(env!("CARGO_MANIFEST_DIR")).join("../target/real-files");
@@ -143,4 +144,88 @@ fn real_commands() {
     of_files(&real, "real_commands", 100, 4, outcomes, |file, random| {
         Case::Expand(Box::new(expand::of_file(file, random)))
     });
+}
+
+/// The real files that have a list of actions: enough of them, and most list some.
+fn with_actions() -> Vec<Vec<u8>> {
+    let mut real = real_files();
+    real.retain(|file| file.split(|byte| *byte == b'\n').any(is_list_of_actions));
+    assert!(
+        real.len() >= LEAST_WITH_ACTIONS,
+        "{} of the real files have Actions, and {LEAST_WITH_ACTIONS} are needed: rust/compare/real-files fetches such ones",
+        real.len()
+    );
+    most("that have Actions list some", &real, |file| {
+        kveldrim::actions_vec(file, b"").is_ok_and(|listed| !listed.is_empty())
+    });
+    real
+}
+
+/// Whether a line is that of the key Actions.
+fn is_list_of_actions(line: &[u8]) -> bool {
+    let behind = line.strip_prefix(b"Actions").unwrap_or_default();
+    behind.trim_ascii_start().starts_with(b"=")
+}
+
+#[test]
+fn real_actions() {
+    let real = with_actions();
+    let outcomes: Outcomes = &[
+        ("actions", &[0, 2, 7, 11]),
+        ("actions, some", &[0]),
+        ("expand_action", &[0, 2, 7, 8, 10, 11, 14]),
+        ("expand_action, not listed", &[8]),
+    ];
+    of_files(
+        &real,
+        "real_actions",
+        1_000,
+        4,
+        outcomes,
+        |file, random| match random.once_in(2) {
+            true => Case::Actions(actions::of_file(file, random)),
+            false => Case::Expand(Box::new(actions::expansion_of(file, random))),
+        },
+    );
+}
+
+/// Every locale that stands in the file, with and without its encoding, and every group of an action.
+#[test]
+fn real_actions_in_every_language() {
+    let mut asker = Asker::new(1);
+    let agrees = |told: Result<(), String>, file: &[u8]| {
+        if let Err(difference) = told {
+            panic!("{difference}\ninput: {}", file.escape_ascii());
+        }
+    };
+    for file in with_actions() {
+        let entries = files::entries(&file).into_iter();
+        let postfixes = entries.filter_map(|entry| entry.postfix);
+        let mut locales: Vec<Vec<u8>> = postfixes
+            .flat_map(|postfix| [reference::strip_encoding(&postfix), postfix])
+            .chain([Vec::new()])
+            .collect();
+        locales.sort();
+        locales.dedup();
+        for locale in locales {
+            let list = actions::Question {
+                file: file.clone(),
+                locale: locale.clone(),
+            };
+            agrees(list.compare(&mut asker), &file);
+            for action in actions::group_identifiers(&file) {
+                let mut command = expand::Question::of(file.clone());
+                command.action = Some(action);
+                command.locale = locale.clone();
+                agrees(command.compare(&mut asker), &file);
+            }
+        }
+    }
+    let outcomes: Outcomes = &[
+        ("actions", &[0, 11]),
+        ("actions, some", &[0]),
+        ("expand_action", &[0, 11]),
+    ];
+    came_up("real_actions_in_every_language", &asker.tally, outcomes);
+    println!("real_actions_in_every_language: {:?}", asker.tally);
 }

@@ -4,10 +4,10 @@
 //! only if accepted; no lent byte changes on a refusal. [`kveldrim_batch`] alone does otherwise: its numbers are always
 //! written, and a refusal may leave earlier edits done. An empty slice may have any pointer.
 
-pub use crate::expand::kveldrim_expand;
+pub use crate::expand::{kveldrim_expand, kveldrim_expand_action};
 
 /// The number of the C interface that is declared here; [`kveldrim_abi`] tells that of the library.
-pub const ABI: u32 = 4;
+pub const ABI: u32 = 5;
 
 /// A call that asks of a file: the file, its length, place, byte.
 pub type FileCall = unsafe extern "C" fn(*const u8, usize, *mut u64, *mut u64) -> u32;
@@ -55,6 +55,18 @@ extern "C" {
         byte: *mut u64,
         from: *mut u64,
         to: *mut u64,
+    ) -> u32;
+
+    pub fn kveldrim_actions(
+        file: *const u8,
+        file_len: usize,
+        locale: *const u8,
+        locale_len: usize,
+        out: *mut u8,
+        out_len: usize,
+        place: *mut u64,
+        byte: *mut u64,
+        written: *mut u64,
     ) -> u32;
 
     pub fn kveldrim_person(

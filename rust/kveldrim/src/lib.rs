@@ -12,6 +12,7 @@
 //! assert_eq!((refusal.kind, refusal.place, refusal.byte), (kveldrim::Kind::BadLine, 2, 4));
 //! ```
 
+mod actions;
 mod batch;
 mod edit;
 mod expand;
@@ -21,9 +22,12 @@ mod refusal;
 
 use std::ops::Range;
 
+pub use actions::{actions, actions_vec, Action};
 pub use batch::{requests_of, Batch, Request, LIST_BOUND};
 pub use edit::{Buffers, Document, Edit, Edits, Numbers, Person, JOURNAL_BOUND};
-pub use expand::{expand, expand_args, list_of, runs, Arguments};
+pub use expand::{
+    action_runs, expand, expand_action, expand_action_args, expand_args, list_of, runs, Arguments,
+};
 pub use refusal::{Kind, Place, Refusal};
 
 /// The most bytes that a file may have.
@@ -43,6 +47,13 @@ fn told(call: impl FnOnce(&mut u64, &mut u64) -> u32) -> Result<(), Refusal> {
             byte,
         }),
     }
+}
+
+/// As [`told`], of a call that also tells how many bytes it wrote.
+fn written(call: impl FnOnce([&mut u64; 3]) -> u32) -> Result<usize, Refusal> {
+    let mut written = 0;
+    told(|place, byte| call([place, byte, &mut written]))?;
+    Ok(written as usize)
 }
 
 /// Whether the file is well formed: 1 to 6.
@@ -131,19 +142,17 @@ pub fn read_list(raw: &[u8], out: &mut [u8]) -> Result<usize, Refusal> {
 }
 
 fn output(call: ffi::OutputCall, input: &[u8], out: &mut [u8]) -> Result<usize, Refusal> {
-    let mut written = 0;
     // SAFETY: the slices and the numbers are lent for this call only; `input` and `out` cannot overlap.
-    told(|place, _| unsafe {
+    written(|[place, _, written]| unsafe {
         call(
             input.as_ptr(),
             input.len(),
             out.as_mut_ptr(),
             out.len(),
             place,
-            &mut written,
+            written,
         )
-    })?;
-    Ok(written as usize)
+    })
 }
 
 /// As [`read_text`], into a vector: 9.
@@ -183,8 +192,8 @@ fn grown(
     }
 }
 
-/// The elements that [`read_list`] wrote: records of their whole length (4 bytes, little-endian), the kind 2 (2 bytes)
-/// and the element. Ends early at bytes that are no such record.
+/// The elements that [`read_list`] or [`actions`] wrote: records of their whole length (4 bytes, little-endian), the kind 2
+/// (2 bytes) and the element. Ends early at bytes that are no such record.
 pub struct Elements<'a> {
     rest: &'a [u8],
 }

@@ -72,7 +72,7 @@ kinds! {
     5 KeyTwice "this key stands further up in this group already"
     6 NoPlain "this key has a [locale], but the same key without one is missing in its group"
     7 Form "the group, key or locale asked for is not well written"
-    8 Missing "there is no such group, key or run"
+    8 Missing "there is no such group, key, action or run"
     9 Escape "unknown or unfinished escape: a backslash may stand before s, n, t, r and backslash, in a list also before ;"
     10 Unfit "the text, list item or location holds bytes that are not allowed, or too many, or none"
     11 NoRoom "the result has no room in its buffer, or the edited file would be over 32,768 bytes"

@@ -55,6 +55,11 @@ fn bytes_of_bad_lines() {
         kveldrim::expand(bad, b"", b"", b"", 0, &mut [0; 9]),
         Err(told)
     );
+    assert_eq!(kveldrim::actions(bad, b"", &mut [0; 9]), Err(told));
+    assert_eq!(
+        kveldrim::expand_action(bad, b"a", b"", b"", b"", 0, &mut [0; 9]),
+        Err(told)
+    );
     let mut document = Document::new(bad);
     assert_eq!(document.set(SEVEN, DESKTOP_ENTRY, b"Name", b"y"), Err(told));
     assert_eq!(document.remove(SEVEN, DESKTOP_ENTRY, b"Name"), Err(told));

@@ -177,6 +177,8 @@ const EDIT: &str = "Example: an edit and its undo";
 const PERSONS: &str = "Example: who made each edit";
 const FULL: &str = "Example: an edit in a full journal";
 const BATCH: &str = "Example: many edits at once, all or none";
+const ACTIONS: &str = "Example: a menu of actions";
+const PROGRAM: &str = "Example: the program that an action starts";
 
 #[test]
 fn no_example_is_left_out() {
@@ -184,7 +186,7 @@ fn no_example_is_left_out() {
     let examples = headings.filter(|heading| heading.starts_with("Example"));
     assert_eq!(
         examples.collect::<Vec<_>>(),
-        [LOOKUP, EDIT, PERSONS, FULL, BATCH]
+        [LOOKUP, EDIT, PERSONS, FULL, BATCH, ACTIONS, PROGRAM]
     );
 }
 
@@ -202,11 +204,13 @@ fn example(heading: &str) -> String {
 /// The start of every file here.
 const T: &str = "[Desktop Entry]\nName=Lesen\n";
 
+/// The code that reads a file for the examples that do not.
+const READ: &str = "static uint8_t file[KVELDRIM_FILE_BOUND + 1];\n\
+    size_t file_len = fread(file, 1, sizeof file, stdin);\n";
+
 #[test]
 fn the_example_of_a_lookup() {
-    let read = "static uint8_t file[KVELDRIM_FILE_BOUND + 1];\n\
-                size_t file_len = fread(file, 1, sizeof file, stdin);\n";
-    let program = C.program("lookup", &HEADERS, &(read.to_string() + &example(LOOKUP)));
+    let program = C.program("lookup", &HEADERS, &(READ.to_string() + &example(LOOKUP)));
     let told = |file: &str| run(&program, file.as_bytes());
     assert_eq!(told(T), ("Lesen".into(), "".into()));
     let bad = "line 3 is bad after 4 bytes\n";
@@ -285,6 +289,32 @@ fn the_example_of_a_batch() {
     let refused = format!("{}, used 0, standing 0", Kind::NoPlain);
     let bad = format!("{T}Icon[de]=x\n");
     assert_eq!(told(&bad), (bad.clone(), refused));
+}
+
+#[test]
+fn the_example_of_actions() {
+    let code = READ.to_string() + &example(ACTIONS);
+    let program = C.program("actions", &HEADERS, &code);
+    let told = |file: &str| run(&program, file.as_bytes());
+    let long = "x".repeat(3_000);
+    let file = format!(
+        "{T}Actions=b;a;c;b;\n[Desktop Action a]\nName=A\nName[de]=\n[Desktop Action b]\nName={long}\n"
+    );
+    assert_eq!(told(&file), (format!("b\t{long}\na\t\n"), "".into()));
+    assert_eq!(told(T), ("".into(), "".into()));
+    assert_eq!(told(&format!("{file}Icon\n")), ("".into(), "".into()));
+}
+
+#[test]
+fn the_example_of_a_program() {
+    let code = [READ, &example(ACTIONS), &example(PROGRAM)].concat();
+    let program = C.program("program", &HEADERS, &code);
+    let told = |file: &str| run(&program, file.as_bytes());
+    let group = "[Desktop Action new-window]\nName=New\nExec=\"a b\" -n\n";
+    let file = format!("{T}Exec=c\nActions=new-window\n{group}");
+    assert_eq!(told(&file), ("new-window\tNew\na b".into(), "".into()));
+    let missing = format!("refused: {}\n", Kind::Missing);
+    assert_eq!(told(&format!("{T}{group}")), ("".into(), missing));
 }
 
 /// The record in the header is the one that its edit writes.

@@ -47,18 +47,32 @@ pub fn expand(
     run: u64,
     out: &mut [u8],
 ) -> Result<usize, Refusal> {
-    let (arguments, items) = read_all(file, locale, location, list)?;
+    let items = read_items(file, locale, location, list)?;
+    expand_group(file, DESKTOP_ENTRY, locale, location, items, run, out)
+}
+
+/// The expansion of a group's Exec for one run: "its Icon serves the code i, and c stays the application's Name".
+pub fn expand_group(
+    file: &[u8],
+    group: &[u8],
+    locale: &[u8],
+    location: &[u8],
+    items: Vec<&[u8]>,
+    run: u64,
+    out: &mut [u8],
+) -> Result<usize, Refusal> {
+    let arguments = read_exec(file, group)?;
     if run >= count_runs(&arguments, &items) {
         return Err(Refusal::new(8));
     }
     // "Then Name, then Icon (each only if its code stands in Exec), then 11."
     let mut name = Vec::new();
     if stands(&arguments, b'c') {
-        name = chosen_text(file, b"Name", locale)?;
+        name = chosen_text(file, DESKTOP_ENTRY, b"Name", locale)?;
     }
     let mut icon = Vec::new();
     if stands(&arguments, b'i') {
-        icon = match chosen_text(file, b"Icon", locale) {
+        icon = match chosen_text(file, group, b"Icon", locale) {
             // "Only a missing Icon is none."
             Err(refusal) if refusal.number == 8 => Vec::new(),
             answer => answer?,
@@ -79,17 +93,22 @@ pub fn expand(
 
 /// The number of runs: n for f and u with n items, else one; refused as the expansion is up to 15 and 16.
 pub fn runs(file: &[u8], locale: &[u8], location: &[u8], list: &[u8]) -> Result<u64, Refusal> {
-    let (arguments, items) = read_all(file, locale, location, list)?;
-    Ok(count_runs(&arguments, &items))
+    let items = read_items(file, locale, location, list)?;
+    group_runs(file, DESKTOP_ENTRY, &items)
 }
 
-/// The arguments of Exec and the items of the list: 1 to 6, 14 of the list, 7, 10, 8, 9, then 15 and 16.
-fn read_all<'a>(
+/// The same of a group's Exec.
+pub fn group_runs(file: &[u8], group: &[u8], items: &[&[u8]]) -> Result<u64, Refusal> {
+    Ok(count_runs(&read_exec(file, group)?, items))
+}
+
+/// The items of the list: 1 to 6, 14 of the list, 7, 10.
+pub fn read_items<'a>(
     file: &[u8],
     locale: &[u8],
     location: &[u8],
     list: &'a [u8],
-) -> Result<(Vec<Argument>, Vec<&'a [u8]>), Refusal> {
+) -> Result<Vec<&'a [u8]>, Refusal> {
     check(file)?;
     let items = read_records(list, 2).ok_or(Refusal::new(14))?;
     if !is_locale(locale) {
@@ -99,14 +118,18 @@ fn read_all<'a>(
     if !items.iter().all(fit_item) || location.len() > LOCATION_BOUND || location.contains(&0) {
         return Err(Refusal::new(10));
     }
-    let (start, end) = lookup(file, DESKTOP_ENTRY, b"Exec")?;
-    let exec = unescape(&file[start..end])?;
-    Ok((read_command(&exec)?, items))
+    Ok(items)
 }
 
-/// Name or Icon by locale, unescaped; 8, or 9 at its place in that raw value.
-fn chosen_text(file: &[u8], key: &[u8], locale: &[u8]) -> Result<Vec<u8>, Refusal> {
-    let (start, end) = choose(file, DESKTOP_ENTRY, key, locale)?;
+/// The arguments of a group's Exec: 8, 9, then 15 and 16.
+fn read_exec(file: &[u8], group: &[u8]) -> Result<Vec<Argument>, Refusal> {
+    let (start, end) = lookup(file, group, b"Exec")?;
+    read_command(&unescape(&file[start..end])?)
+}
+
+/// Name or Icon of a group by locale, unescaped; 8, or 9 at its place in that raw value.
+fn chosen_text(file: &[u8], group: &[u8], key: &[u8], locale: &[u8]) -> Result<Vec<u8>, Refusal> {
+    let (start, end) = choose(file, group, key, locale)?;
     unescape(&file[start..end])
 }
 

@@ -1,8 +1,9 @@
-//! A second, independent reading of paper 01, and of A3, A4, A6, A9 and A10 of paper 02, in plain Rust, to compare answers with.
-//! It follows the sentences of the papers one by one and does not try to be fast.
+//! A second, independent reading of paper 01, and of A1, A3, A4, A6, A9 and A10 of paper 02, in plain Rust, to compare answers
+//! with. It follows the sentences of the papers one by one and does not try to be fast.
 
 #![forbid(unsafe_code)]
 
+mod actions;
 mod book;
 mod edit;
 mod exec;
@@ -14,6 +15,7 @@ mod records;
 mod refusal;
 pub mod text;
 
+pub use actions::{action_group, action_runs, actions, expand_action, listed};
 pub use book::Book;
 pub use edit::Request;
 pub use exec::{expand, runs};

@@ -134,6 +134,11 @@ pub fn is_group(name: &[u8]) -> bool {
     !name.is_empty() && skip(name, 0, is_group_byte) == name.len()
 }
 
+/// Key form: a key argument without postfix.
+pub fn is_plain_key(argument: &[u8]) -> bool {
+    split_key(argument).is_some_and(|(_, postfix)| postfix.is_none())
+}
+
 /// 7: the form of a key argument with its postfix; the key and the postfix without brackets.
 pub fn split_key(argument: &[u8]) -> Option<(&[u8], Option<&[u8]>)> {
     let (key, postfix, end) = read_key(argument).ok()?;

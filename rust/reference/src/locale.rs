@@ -1,7 +1,7 @@
 //! Paper 01, "Language, escapes, lists", the part on language; and the form of LOCALE. Paper 02, A3: keys that carry an encoding.
 
-use crate::file::{check, find_entry, find_group, read_groups, Entry};
-use crate::lines::{is_group, is_key_byte, skip, split_key, Part};
+use crate::file::{check, find_entry, find_group, read_groups, Entry, Group};
+use crate::lines::{is_group, is_key_byte, is_plain_key, skip, Part};
 use crate::refusal::Refusal;
 
 /// "LOCALE is lang, then perhaps `_`COUNTRY, `.`ENCODING, `@`MODIFIER"; the encoding is read, not kept.
@@ -84,8 +84,7 @@ pub fn strip_encoding(locale: &[u8]) -> Vec<u8> {
     [&locale[..encoding], &locale[modifier..]].concat()
 }
 
-/// Choice: 1 to 6, then 7, then 8 "exactly if the plain key is missing, or its whole group". A3 on the encoding: "Strip it on
-/// both sides. Where two postfixes become equal, the earlier line wins, for every locale."
+/// Choice: 1 to 6, then 7, then 8 "exactly if the plain key is missing, or its whole group".
 pub fn choose(
     file: &[u8],
     group: &[u8],
@@ -93,12 +92,17 @@ pub fn choose(
     locale: &[u8],
 ) -> Result<(usize, usize), Refusal> {
     check(file)?;
-    let plain_key = split_key(key).is_some_and(|(_, postfix)| postfix.is_none());
-    if !is_group(group) || !plain_key || !is_locale(locale) {
+    if !is_group(group) || !is_plain_key(key) || !is_locale(locale) {
         return Err(Refusal::new(7));
     }
     let groups = read_groups(file);
     let group = find_group(&groups, group).ok_or(Refusal::new(8))?;
+    find_chosen(group, key, locale)
+}
+
+/// The value's two ends in a group, or 8. A3 on the encoding: "Strip it on both sides. Where two postfixes become equal, the
+/// earlier line wins, for every locale."
+pub fn find_chosen(group: &Group, key: &[u8], locale: &[u8]) -> Result<Part, Refusal> {
     let plain = find_entry(group, key, None).ok_or(Refusal::new(8))?;
     for candidate in candidates(locale) {
         let is_candidate = |entry: &&Entry| {

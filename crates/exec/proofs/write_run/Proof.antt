@@ -5,7 +5,7 @@ use Rattle.text.proofs.OutputLaws.{leaves-full, leaves-written}
 use Rattle.command.specs.Command.{argumentsIn}
 use Rattle.exec.specs.Run.{runOf}
 use Rattle.exec.specs.Step.{putOf, itemsIn}
-use Rattle.exec.proofs.Spending.{spend-was, spend-lacks}
+use Rattle.text.proofs.Room.{spend-was, spend-lacks}
 use Rattle.exec.proofs.Arguments.{recordsOf}
 use borrow.Author.Needs.{needs}
 use Rattle.exec.proofs.write_run.Statement.{statement}

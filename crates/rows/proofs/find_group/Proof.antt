@@ -2,6 +2,7 @@
 use borrow.Author.Needs.{needs}
 use native.Mathlib.Omega.{arith}
 use mathlib.Core.Path.{sym, _∙_}
+use mathlib.Core.List.{_++_}
 use lib.ListN.{length}
 use borrow.Author.Tests.{eq-eqb, ne-eqb}
 use Prim.Native.Nat.{_-_}
@@ -13,18 +14,18 @@ use Rattle.rows.proofs.find_group.Statement.{statement}
 use Rattle.rows.proofs.find_group.Tie as tie
 
 abbrev Inv-loop : tie.InvT-loop
-Inv-loop file group p₀ n₀ p n = Seek file (finding (Group group)) (finding (Group group) (readRows file)) p n
+Inv-loop file front rest p₀ n₀ p n = Seek file (finding (Group (front ++ rest))) (finding (Group (front ++ rest)) (readRows file)) p n
 
 abbrev μ-loop : tie.MeasureT-loop
-μ-loop file group p₀ n₀ p n = length file - p
+μ-loop file front rest p₀ n₀ p n = length file - p
 
 part-l-end : tie.Need-part-l-end Inv-loop μ-loop
 part-l-end c =
     let l = c .before .before in
-    end-le (l .before .before .before .args .file .now) {p = l .loop .p} (search needs) (c .line-end .ensures)
+    end-le (l .before .before .before .before .args .file .now) {p = l .loop .p} (search needs) (c .line-end .ensures)
 
-sub-same : tie.Need-sub-same Inv-loop μ-loop
-sub-same c =
+sub-is-joined : tie.Need-sub-is-joined Inv-loop μ-loop
+sub-is-joined c =
     let e = c .before .before .before in
     let l = e .before .before in
     omega (arith, seek-header (l .loop .inv) (search needs) (e .line-end .ensures) (sym (eq-eqb _ _ (sym (c .before .byte-at .ensures) ∙ c .if1 .taken))) .1)
@@ -34,14 +35,14 @@ returns c =
     let e = c .before .before .before .before .before .before in
     let l = e .before .before in
     let b = sym (eq-eqb _ _ (sym (c .before .before .before .before .byte-at .ensures) ∙ c .before .before .before .if1 .taken)) in
-    group-hit _ (l .loop .inv) (search needs) (e .line-end .ensures) b (rw (c .if2 .taken) at (c .before .same .ensures))
+    group-hit _ (l .loop .inv) (search needs) (e .line-end .ensures) b (rw (c .if2 .taken) at (c .before .is-joined .ensures))
 
 loop-again : tie.Need-loop-again Inv-loop μ-loop
 loop-again c =
     let e = c .before .before .before .before .before .before in
     let l = e .before .before in
     let b = sym (eq-eqb _ _ (sym (c .before .before .before .before .byte-at .ensures) ∙ c .before .before .before .if1 .taken)) in
-    group-other _ (l .loop .inv) (search needs) (e .line-end .ensures) b (rw (c .if2 .left) at (c .before .same .ensures))
+    group-other _ (l .loop .inv) (search needs) (e .line-end .ensures) b (rw (c .if2 .left) at (c .before .is-joined .ensures))
 
 loop-again-2 : tie.Need-loop-again-2 Inv-loop μ-loop
 loop-again-2 c =
@@ -55,16 +56,16 @@ find-group-spec =
     (tie.spec
     Inv-loop
     μ-loop
-    (λ c. seek-start _ (finding (Group _)) (c .before .before .pre))
+    (λ c. seek-start _ (finding (Group _)) (c .before .before .before .pre))
     (λ c κs. search needs)
     (λ c. search needs)
     (λ c. search needs)
     part-l-end
     (λ c κs. search needs)
-    (λ c. omega (arith, sub-same c))
-    sub-same
-    (λ c. omega (arith, sub-same c))
-    (λ c. omega (arith, sub-same c))
+    (λ c. omega (arith, sub-is-joined c))
+    sub-is-joined
+    (λ c. omega (arith, sub-is-joined c))
+    (λ c. omega (arith, sub-is-joined c))
     (λ c κs. search needs)
     returns
     (λ c. omega (arith, part-l-end (c .before .before .before .before .before .before)))

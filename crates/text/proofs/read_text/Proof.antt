@@ -3,7 +3,9 @@ use native.Mathlib.Omega.{arith}
 use mathlib.Core.Path.{sym, ap, _∙_}
 use Rattle.text.specs.Escape.{readText}
 use Rattle.text.specs.Step.{measured}
-use Rattle.text.proofs.OutputLaws.{given-length, refused-length, leaves-refused, leaves-full, leaves-written}
+use Rattle.fault.proofs.Answers.{then-refused}
+use lib.ListN.{length}
+use Rattle.text.proofs.OutputLaws.{given-length, leaves-refused, leaves-full, leaves-written}
 use borrow.Author.Needs.{needs}
 use Rattle.text.proofs.read_text.Statement.{statement}
 use Rattle.text.proofs.read_text.Tie as tie
@@ -28,7 +30,7 @@ unfolding readText
 returns-2 c =
     let m = c .before .before in
     let a = m .before .before .before .before .args in
-    leaves-refused (readText (a .raw .now)) _ (a .out .now) (refused-length (readText (a .raw .now)) _ (sym (ap measured (c .before .at .given .1)) ∙ m .before .text-length .ensures))
+    leaves-refused (readText (a .raw .now)) _ (a .out .now) (then-refused length (readText (a .raw .now)) (sym (ap measured (c .before .at .given .1)) ∙ m .before .text-length .ensures))
 
 returns-3 : tie.Need-returns-3
 unfolding readText

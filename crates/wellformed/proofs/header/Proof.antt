@@ -22,16 +22,16 @@ returns-2 c = (rw (c .before .before .if1 .taken, sym (c .before .same .ensures)
 returns-3 : tie.Need-returns-3
 unfolding verdictOf sameTitle
 returns-3 c =
-    let s = c .before .before .before .before .before .before .before .before .before .before .before .before .before .before in
+    let s = c .before .before .before .before .before .before .before .before .before .before .before .before .before .before .before in
     let t = told-there (findRow (readRows (take (s .args .p) (s .args .file .now))) (Group (s .args .name .now))) (sym (c .enum-told .given .1) ∙ c .before .before .find-group .ensures) in
-    (rw (c .before .before .before .before .before .if1 .left, t) refl, c .before .before .before .before .before .before .before .before .mark .ensures .1)
+    (rw (c .before .before .before .before .before .before .if1 .left, t) refl, c .before .before .before .before .before .before .before .before .before .mark .ensures .1)
 
 returns-4 : tie.Need-returns-4
 unfolding verdictOf sameTitle
 returns-4 c =
-    let s = c .before .before .before .before .before .before .before .before .before .before .before .before .before .before in
+    let s = c .before .before .before .before .before .before .before .before .before .before .before .before .before .before .before in
     let t = told-missing (findRow (readRows (take (s .args .p) (s .args .file .now))) (Group (s .args .name .now))) (sym (c .enum-told2 .given .1) ∙ c .before .before .find-group .ensures) in
-    (rw (c .before .before .before .before .before .if1 .left, t) refl, c .before .before .before .before .before .before .before .before .mark .ensures .1)
+    (rw (c .before .before .before .before .before .before .if1 .left, t) refl, c .before .before .before .before .before .before .before .before .before .mark .ensures .1)
 
 returns-5 : tie.Need-returns-5
 unfolding verdictOf sameTitle
@@ -50,6 +50,7 @@ header-spec =
     (λ c. search needs)
     returns-2
     (λ c. let s = c .before .before .before .before .before .before .before .before .before .before .before in sym (length-take-le (s .args .p) (s .args .file .now) (s .pre .0)))
+    (λ c. search needs)
     (λ c κs. search needs)
     (λ c. search needs)
     (λ c. search needs)

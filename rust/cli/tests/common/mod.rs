@@ -6,7 +6,7 @@
 use std::ffi::{OsStr, OsString};
 use std::fs::{self, File};
 use std::os::unix::ffi::{OsStrExt, OsStringExt};
-use std::os::unix::fs::{MetadataExt, PermissionsExt};
+use std::os::unix::fs::{symlink, MetadataExt, PermissionsExt};
 use std::path::{Path, PathBuf};
 use std::process::{self, Command};
 use std::sync::atomic::{AtomicU32, Ordering};
@@ -232,6 +232,26 @@ pub fn tool(name: &str, package: &str, words: &[&str], path: &Path) -> Vec<u8> {
     let told = String::from_utf8_lossy(&output.stderr);
     assert!(output.status.success(), "{name} {words:?}: {told}");
     output.stdout
+}
+
+/// The first commands in a part of the README write what stands below them.
+pub fn run_the_readme(heading: &str) {
+    let readme = concat!(env!("CARGO_MANIFEST_DIR"), "/../../README.md");
+    let readme = fs::read_to_string(readme).unwrap();
+    let (_, part) = readme.split_once(&format!("\n## {heading}\n")).unwrap();
+    let (part, _) = part.split_once("\n## ").unwrap();
+    let mut blocks = part.split("\n\n").filter(|block| block.starts_with("    "));
+    let mut block = || {
+        let lines = blocks.next().unwrap().lines();
+        let lines = lines.map(|line| format!("{}\n", line.strip_prefix("    ").unwrap()));
+        lines.collect::<String>()
+    };
+    let (commands, written) = (block(), block());
+    let folder = Folder::new();
+    symlink(env!("CARGO_BIN_EXE_kveldrim"), folder.0.join("kveldrim")).unwrap();
+    let mut command = Command::new("sh");
+    command.args(["-c", &commands]).env("TMPDIR", &folder.0);
+    folder.run_by(command, &[]).writes(written.as_bytes());
 }
 
 pub struct Outcome {

@@ -149,9 +149,16 @@ pub fn expand_file(
 ) -> Result<Vec<String>, Refusal> {
     let list = records(2, items);
     let call = |out: &mut [u8]| reference::expand(file, locale, location, &list, run, out);
-    let out = output(call, 1_000)?;
-    let arguments = split(3, &out).into_iter();
-    Ok(arguments
+    texts(3, call)
+}
+
+/// A call that writes records of one kind, all of them text; these are taken apart.
+pub fn texts(
+    kind: u16,
+    call: impl Fn(&mut [u8]) -> Result<usize, Refusal>,
+) -> Result<Vec<String>, Refusal> {
+    let items = split(kind, &output(call, 1_000)?).into_iter();
+    Ok(items
         .map(|bytes| String::from_utf8(bytes).unwrap())
         .collect())
 }

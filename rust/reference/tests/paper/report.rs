@@ -2,8 +2,8 @@
 
 use crate::common::{records, request, with_header, T};
 use reference::{
-    batch, check, choose, complete, expand, forget, lookup, person, read_list, read_text, set,
-    write_text, Batch, RecordKind, Refusal, State,
+    actions, batch, check, choose, complete, expand, expand_action, forget, lookup, person,
+    read_list, read_text, set, write_text, Batch, RecordKind, Refusal, State,
 };
 
 /// A call with an output.
@@ -81,7 +81,18 @@ fn chooses(file: &[u8], key: &[u8], locale: &[u8]) -> String {
     format!("choose {place} for {}: {value}", quote(locale))
 }
 
-/// A call whose output holds dots before it.
+/// The words of a call with an output of so many bytes, which holds dots before it.
+fn written(
+    asked: &str,
+    call: impl Fn(&mut [u8]) -> Result<usize, Refusal>,
+    show: fn(&[u8]) -> String,
+    room: usize,
+) -> String {
+    let mut out = vec![b'.'; room];
+    let answer = told(call(&mut out), |n| format!("{n} bytes"));
+    format!("{asked} into {room} bytes: {answer}, {}", show(&out))
+}
+
 fn writes(
     name: &str,
     call: Output,
@@ -89,10 +100,8 @@ fn writes(
     input: &[u8],
     room: usize,
 ) -> String {
-    let mut out = vec![b'.'; room];
-    let answer = told(call(input, &mut out), |n| format!("{n} bytes"));
-    let input = quote(input);
-    format!("{name} {input} into {room} bytes: {answer}, {}", show(&out))
+    let asked = format!("{name} {}", quote(input));
+    written(&asked, |out| call(input, out), show, room)
 }
 
 fn reads_text(raw: &[u8], room: usize) -> String {
@@ -243,6 +252,12 @@ fn batches() -> Vec<String> {
     ]
 }
 
+/// What an expansion is asked, from the file on.
+fn expansion(file: &[u8], locale: &[u8], location: &[u8], list: &[u8]) -> String {
+    let [file, locale, location, list] = [file, locale, location, list].map(quote);
+    format!("{file} for {locale} at {location} with the list {list}")
+}
+
 /// A run of a file's Exec for a locale at a location, with a list of files, into so many bytes.
 fn expands(
     file: &[u8],
@@ -252,14 +267,25 @@ fn expands(
     run: u64,
     room: usize,
 ) -> String {
-    let mut out = vec![b'.'; room];
-    let answer = expand(file, locale, location, list, run, &mut out);
-    let answer = told(answer, |n| format!("{n} bytes"));
-    let [file, locale, location, list] = [file, locale, location, list].map(quote);
-    let out = digits(&out);
-    format!(
-        "expand run {run} of {file} for {locale} at {location} with the list {list} into {room} bytes: {answer}, {out}"
-    )
+    let asked = expansion(file, locale, location, list);
+    let asked = format!("expand run {run} of {asked}");
+    let call = |out: &mut [u8]| expand(file, locale, location, list, run, out);
+    written(&asked, call, digits, room)
+}
+
+/// The actions of a file for a locale, into so many bytes.
+fn lists(file: &[u8], locale: &[u8], room: usize) -> String {
+    let asked = format!("actions of {} for {}", quote(file), quote(locale));
+    written(&asked, |out| actions(file, locale, out), digits, room)
+}
+
+/// Run 0 of an action with the file `a`, for German, at a location.
+fn expands_action(file: &[u8], action: &[u8]) -> String {
+    let (locale, location, list) = (b"de", b"/t.desktop", records(2, &["a"]));
+    let asked = expansion(file, locale, location, &list);
+    let asked = format!("expand_action run 0 of {} in {asked}", quote(action));
+    let call = |out: &mut [u8]| expand_action(file, action, locale, location, &list, 0, out);
+    written(&asked, call, digits, 42)
 }
 
 fn edits() -> Vec<String> {
@@ -344,6 +370,31 @@ fn commands() -> Vec<String> {
         command(br#"view "a"%z"#),
         command(br#"view "a""b""#),
         command(br#"view "a=" b="""#),
+    ]
+}
+
+fn submenus() -> Vec<String> {
+    let file = with_header(
+        b"Name=A\nName[de]=B\nIcon=a\nActions=new;print;new;gone;a b;bare;\n\
+        [Desktop Action new]\nName=New\nName[de]=Neu\nIcon=n\nExec=app %i %c %f\n\
+        [Desktop Action print]\nName=Print\nExec=app %i %c\n\
+        [Desktop Action a b]\nName=C\nExec=app\n\
+        [Desktop Action bare]\nExec=app\n",
+    );
+    let wrong = with_header(b"Actions=a;\\q\n[Desktop Action a]\nName=\\q\n");
+    let labels =
+        with_header(b"Actions=b;a\n[Desktop Action a]\nName=\\q\n[Desktop Action b]\nName=x\\q\n");
+    vec![
+        lists(&file, b"", 42),
+        lists(&file, b"de", 40),
+        lists(&file, b"de", 39),
+        expands_action(&file, b"new"),
+        expands_action(&file, b"print"),
+        expands_action(&file, b"a b"),
+        expands_action(&file, b"bare"),
+        lists(&wrong, b"", 4),
+        expands_action(&wrong, b"b"),
+        lists(&labels, b"", 4),
     ]
 }
 
@@ -452,7 +503,7 @@ fn texts() -> Vec<String> {
 fn the_program_reports_the_same() {
     let path = concat!(env!("CARGO_MANIFEST_DIR"), "/../../crates/examples/stdout");
     let report = std::fs::read_to_string(path).unwrap();
-    let lines = [files(), values(), texts(), edits(), commands()].concat();
+    let lines = [files(), values(), texts(), edits(), commands(), submenus()].concat();
     for (line, expected) in report.lines().zip(&lines) {
         assert_eq!(line, expected);
     }

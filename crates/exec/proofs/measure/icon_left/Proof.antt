@@ -1,5 +1,5 @@
 -- `measure::icon_left` meets its contract: two records, or none. Assumes nothing.
-use Rattle.exec.proofs.Spending.{spend-add, spend-zero}
+use Rattle.text.proofs.Room.{spend-add, spend-zero}
 use Rattle.exec.proofs.Listing.{list-none}
 use Rattle.exec.proofs.Arguments.{icon-none, icon-some}
 use borrow.Author.Needs.{needs}

@@ -4,7 +4,7 @@ use native.Mathlib.Omega.{arith}
 use Prim.Native.Nat.{_-_}
 use lib.ListN.{length}
 use Rattle.command.proofs.Pieces.{pieces-further}
-use Rattle.exec.specs.Step.{spend, putOf}
+use Rattle.exec.specs.Step.{putOf}
 use Rattle.exec.proofs.Spending.{Spending, spending-start, spending-next, spending-end}
 use Rattle.exec.proofs.measure.pieces_left.Statement.{statement}
 use Rattle.exec.proofs.measure.pieces_left.Tie as tie

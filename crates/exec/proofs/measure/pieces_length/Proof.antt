@@ -1,7 +1,7 @@
 -- `measure::pieces_length` meets its contract: what is left of a room that has them all tells how many. Assumes nothing.
 use native.Mathlib.Omega.{arith}
 use mathlib.Core.Path.{sym, _∙_}
-use Rattle.exec.proofs.Spending.{spend-told, spend-lacks}
+use Rattle.text.proofs.Room.{spend-told, spend-lacks}
 use borrow.Author.Needs.{needs}
 use Rattle.exec.proofs.measure.pieces_length.Statement.{statement}
 use Rattle.exec.proofs.measure.pieces_length.Tie as tie

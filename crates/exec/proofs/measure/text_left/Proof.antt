@@ -1,5 +1,5 @@
 -- `measure::text_left` meets its contract: a head and the pieces make the record. Assumes nothing.
-use Rattle.exec.proofs.Spending.{spend-add}
+use Rattle.text.proofs.Room.{spend-add}
 use Rattle.exec.proofs.Listing.{length-one}
 use borrow.Author.Needs.{needs}
 use Rattle.exec.proofs.measure.text_left.Statement.{statement}

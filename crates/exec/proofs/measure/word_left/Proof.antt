@@ -5,7 +5,7 @@ use Rattle.base.proofs.Lists.{length-part}
 use Rattle.command.proofs.Parting.{quote-ends}
 use Rattle.exec.specs.Run.{runOf}
 use Rattle.exec.specs.Step.{putOf, itemsIn}
-use Rattle.exec.proofs.Spending.{spend-zero}
+use Rattle.text.proofs.Room.{spend-zero}
 use Rattle.exec.proofs.Listing.{items-length}
 use Rattle.exec.proofs.Arguments.{files-records, icon-records, quoted-records, dropped-records, bare-records}
 use borrow.Author.Needs.{needs}

@@ -5,7 +5,6 @@ use Rattle.record.proofs.Written.{body-then-head}
 use Rattle.text.specs.Escape.{textFrom}
 use Rattle.text.specs.Step.{textOf}
 use mathlib.Core.Bool.{false}
-use Rattle.text.specs.declared.Escapes.the-variants as escapes
 use borrow.Author.Needs.{needs}
 use Rattle.text.proofs.list.put.Statement.{statement}
 use Rattle.text.proofs.list.put.Tie as tie
@@ -16,7 +15,7 @@ returns c =
     let u = p .before .before .before .before in
     let s = u .before .before .before .before in
     let a = s .args in
-    let r : Rec = record { kind = 2; body = textOf (textFrom escapes.List (a .raw .now) false 0) } in
+    let r : Rec = record { kind = 2; body = textOf (textFrom (a .k) (a .raw .now) false 0) } in
     (omega (arith, u .unescape .ensures .0), body-then-head (a .out .now) (u .unescape .last .1 .1 .0) (p .put-head .last .0) (a .at) r (s .pre .1) (u .unescape .ensures .0) (u .unescape .ensures .1) (p .put-head .ensures))
 
 pub put-spec : {M : Type 1} → statement M

@@ -4,7 +4,7 @@ use native.Mathlib.Omega.{arith}
 use mathlib.Core.Path.{sym, ap, _∙_}
 use lib.ListN.{length}
 use Prim.Native.Nat.{_-_}
-use Rattle.text.specs.Step.{spend, measured}
+use Rattle.text.specs.Step.{measured}
 use Rattle.text.proofs.Elements.{Sparing, spare-start, spare-end, spare-wrong, spare-place, spare-next, element-end}
 use Rattle.text.proofs.list.spare.Statement.{statement}
 use Rattle.text.proofs.list.spare.Tie as tie
@@ -67,7 +67,7 @@ loop-again : tie.Need-loop-again Inv-loop μ-loop
 loop-again c =
     let m = c .before .before .before in
     let e = m .before .before .before in
-    spare-next (e .before .before .loop .inv) (search needs) (e .element-end .ensures) (sym (ap measured (c .before .before .n .given .1)) ∙ m .before .text-length .ensures) (c .spend .ensures)
+    spare-next (e .before .before .loop .inv) (search needs) (e .element-end .ensures) (sym (ap measured (c .before .before .n .given .1)) ∙ m .before .text-length .ensures) (c .spend-record .ensures)
 
 pub spare-spec : {M : Type 1} → statement M
 spare-spec =

@@ -1,9 +1,9 @@
--- `measure::spend` meets its contract: the tests that led to each return say which case of the definition holds. Assumes nothing.
+-- `spend` meets its contract: the tests that led to each return say which case of the definition holds. Assumes nothing.
 use borrow.Author.Tests.{le-leb, lt-leb}
-use Rattle.exec.specs.Step.{spend}
+use Rattle.text.specs.Step.{spend}
 use borrow.Author.Needs.{needs}
-use Rattle.exec.proofs.measure.spend.Statement.{statement}
-use Rattle.exec.proofs.measure.spend.Tie as tie
+use Rattle.text.proofs.spend.Statement.{statement}
+use Rattle.text.proofs.spend.Tie as tie
 
 returns : tie.Need-returns
 unfolding spend
