@@ -37,7 +37,7 @@ fn label<'a, 'b, 'c>(file: &'a [u8], group: &'b [u8], locale: &'c [u8]) -> &'a [
     &file[from..to]
 }
 
-// The room left after the records of an element, if it is listed, or where its label's escape is wrong.
+// The room left after the records of an element, if it is listed, or where its label's escape is wrong. 12: the heads of both records.
 fn action_left(file: &[u8], raw: &[u8], i: usize, e: usize, locale: &[u8], left: Left) -> Spared
     requires { ⌜ (noneBad (now file) ≡ true) × (localeForm (now locale) ≡ true) × (i ≤ e) × (e ≤ length (now raw)) ⌝ }
     ensures { λ r. ⌜ spared r ≡ then (spendList left) (labelled (readRows (now (file .entry))) (now (locale .entry)) (listedAt (readRows (now (file .entry))) (now (raw .entry)) i e)) ⌝ }

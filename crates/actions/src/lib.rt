@@ -21,6 +21,7 @@ pub fn actions(file: &[u8], locale: &[u8], out: &mut [u8]) -> Written
         Checked::Sound => {
             if line::form::is_locale(locale) {
                 let raw = listed::value(file);
+                // No room is asked for: this tells whether the list's escapes are right.
                 return match text::list::spare(raw, 0) {
                     Spared::Wrong(at) => Written::Refused(Fault::BadEscape { at }),
                     Spared::Is(_) => labels::write_all(file, raw, locale, out),
