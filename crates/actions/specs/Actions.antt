@@ -30,12 +30,16 @@ actionGroup id = ascii "Desktop Action " ++ id
 unfoldable pub isAction : List Row → List ℕ → Bool
 isAction rs id = plainForm id && has rs (Group (actionGroup id)) && has rs (Key (actionGroup id) (ascii "Name"))
 
+-- it is an action's, and does not stand among those seen
+abbrev pub isNew : List Row → List (List ℕ) → List ℕ → Bool
+isNew rs seen id = isAction rs id && not (any (same id) seen)
+
 -- the actions among some identifiers, each where it first stands; those seen stood before
 unfoldable pub listedFrom : List Row → List (List ℕ) → List (List ℕ) → List (List ℕ)
 listedFrom rs seen [] = []
 listedFrom rs seen (id ∷ ids) =
     let later : List (List ℕ) = listedFrom rs (id ∷ seen) ids in
-    pick (isAction rs id && not (any (same id) seen)) (id ∷ later) later
+    pick (isNew rs seen id) (id ∷ later) later
 
 -- the actions that are listed, in list order, or 9
 unfoldable pub listed : List Row → Answer (List (List ℕ))

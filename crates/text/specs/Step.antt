@@ -1,12 +1,12 @@
 -- What the inner functions of this crate answer, by the definitions of text. Assumes nothing.
 use Prim.Native.Nat.{ℕ, zero, suc, _+_, _-_}
-use Prim.Native.Char.{Char, code}
+use Prim.Native.Char.{code}
 use mathlib.Core.Bool.{Bool, true, false}
 use mathlib.Core.Option.{Option, none, some}
 use mathlib.Core.List.{List, [], _∷_}
 use lib.ListN.{length, getD}
 use lib.Dec.{eqb, ltb, leb}
-use Rattle.base.specs.Choice.{pick, maybe}
+use Rattle.base.specs.Choice.{pick}
 use Rattle.fault.specs.declared.Fault.the-variants.{BadEscape}
 use Rattle.fault.specs.Answer.{Answer, given, refused}
 use Rattle.record.specs.Record.{headLength}
