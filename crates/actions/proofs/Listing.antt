@@ -1,7 +1,7 @@
 -- Which actions are listed: those of the list that are actions, each once, each with a label. Assumes nothing.
 use mathlib.Core.Path.{_≡_, refl, sym, ap, _∙_}
 use Prim.Native.Nat.{ℕ}
-use mathlib.Core.Bool.{Bool, true, false, not, _&&_, _||_, and-false, and-true, or-true}
+use mathlib.Core.Bool.{Bool, true, false, _&&_, _||_, and-false, and-true, or-true}
 use mathlib.Core.List.{List, [], _∷_, _++_, append-nil}
 use Rattle.base.specs.Choice.{pick, there}
 use Rattle.base.specs.Lists.{ascii, same, any, all}
@@ -16,7 +16,7 @@ use Rattle.rows.specs.Title.{Group, Key, has}
 use Rattle.choice.specs.Locale.{candidates, postfixed, chosen}
 use Rattle.choice.proofs.Stripped.{plain-found}
 use Rattle.choice.proofs.Chosen.{hasStripped, chosen-there}
-use Rattle.actions.specs.Actions.{actionGroup, isAction, listedFrom}
+use Rattle.actions.specs.Actions.{actionGroup, isAction, isNew, listedFrom}
 use Rattle.actions.specs.Step.{elements}
 use Rattle.actions.proofs.Identifiers.{Alike, AllAlike, alike-same, all-alike}
 
@@ -36,16 +36,16 @@ module _ (rs : List Row) where
 
   -- those that stand in the list, are actions and were not seen
   listed-among : (seen ids : List (List ℕ)) (id : List ℕ)
-      → any (same id) (listedFrom rs seen ids) ≡ (any (same id) ids && (isAction rs id && not (any (same id) seen)))
+      → any (same id) (listedFrom rs seen ids) ≡ (any (same id) ids && isNew rs seen id)
   unfolding listedFrom any
   listed-among seen [] id = refl
   listed-among seen (x ∷ ids) id =
       by-test (same id x)
       (λ e. let i : x ≡ id = sym (same-true id x e) in
       rw (i, same-refl id)
-      (own-front id (isAction rs id && not (any (same id) seen)) (listedFrom rs (id ∷ seen) ids)
+      (own-front id (isNew rs seen id) (listedFrom rs (id ∷ seen) ids)
       (listed-among (id ∷ seen) ids id ∙ rw (same-refl id, and-false (isAction rs id)) (and-false (any (same id) ids)))))
-      (λ f. other-front id x (isAction rs x && not (any (same x) seen)) (listedFrom rs (x ∷ seen) ids) f ∙ listed-among (x ∷ seen) ids id ∙ rw f)
+      (λ f. other-front id x (isNew rs seen x) (listedFrom rs (x ∷ seen) ids) f ∙ listed-among (x ∷ seen) ids id ∙ rw f)
 
   -- an identifier is listed exactly if it stands in the list and is an action's
   pub listed-exactly : (ids : List (List ℕ)) (id : List ℕ) → any (same id) (listedFrom rs [] ids) ≡ (any (same id) ids && isAction rs id)
@@ -66,9 +66,9 @@ module _ (rs : List Row) where
 
   -- the first of some identifiers, if it is listed, and those after it
   pub listed-next : (seen : List (List ℕ)) (x : List ℕ) (ids : List (List ℕ))
-      → listedFrom rs seen (x ∷ ids) ≡ pick (isAction rs x && not (any (same x) seen)) (x ∷ []) [] ++ listedFrom rs (seen ++ (x ∷ [])) ids
+      → listedFrom rs seen (x ∷ ids) ≡ pick (isNew rs seen x) (x ∷ []) [] ++ listedFrom rs (seen ++ (x ∷ [])) ids
   unfolding listedFrom any
-  listed-next seen x ids = rw (listed-seen (x ∷ seen) (seen ++ (x ∷ [])) ids last) (go (isAction rs x && not (any (same x) seen)) (listedFrom rs (seen ++ (x ∷ [])) ids))
+  listed-next seen x ids = rw (listed-seen (x ∷ seen) (seen ++ (x ∷ [])) ids last) (go (isNew rs seen x) (listedFrom rs (seen ++ (x ∷ [])) ids))
     where
       last : (id : List ℕ) → any (same id) (x ∷ seen) ≡ any (same id) (seen ++ (x ∷ []))
       last id = sym (any-middle (same id) seen x [] ∙ ap (λ (y : List (List ℕ)). same id x || any (same id) y) (append-nil seen))

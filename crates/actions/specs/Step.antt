@@ -1,6 +1,6 @@
 -- What the inner functions of this crate answer, by the definitions of actions. Assumes nothing.
 use Prim.Native.Nat.{ℕ}
-use mathlib.Core.Bool.{Bool, false, not}
+use mathlib.Core.Bool.{Bool, false}
 use mathlib.Core.List.{List, [], _∷_}
 use lib.ListN.{length, take}
 use Rattle.base.specs.Choice.{pick}

@@ -23,7 +23,7 @@ use Rattle.rows.specs.Title.{Title, Group, Key, sameTitle, has}
 use Rattle.wellformed.specs.Check.{check}
 use Rattle.wellformed.specs.WellFormed.{distinct}
 use Rattle.exec.specs.Expand.{askedItems, nameIn, groupArguments}
-use Rattle.actions.specs.Actions.{identifiers, actionGroup, isAction, listedFrom, listed, labelled, actions, expandAction}
+use Rattle.actions.specs.Actions.{identifiers, actionGroup, isAction, isNew, listedFrom, listed, labelled, actions, expandAction}
 use Rattle.actions.proofs.Listing.{not-again}
 use Rattle.actions.proofs.Groups.{group-short}
 use Rattle.demands.specs.Actions.{Action, bodies, Menu, isListed, ListReadsBack, ListedCanBeAsked, NoneListedTwice}
@@ -47,7 +47,7 @@ listed-actions rs seen (id ∷ ids) = go (isAction rs id) (not (any (same id) se
 listed-distinct : (rs : List Row) (seen ids : List (List ℕ)) → distinct (map Group (listedFrom rs seen ids)) ≡ true
 unfolding listedFrom distinct sameTitle
 listed-distinct rs seen [] = refl
-listed-distinct rs seen (id ∷ ids) = go (isAction rs id && not (any (same id) seen)) (listed-distinct rs (id ∷ seen) ids)
+listed-distinct rs seen (id ∷ ids) = go (isNew rs seen id) (listed-distinct rs (id ∷ seen) ids)
   where
     later : List (List ℕ)
     later = listedFrom rs (id ∷ seen) ids
