@@ -6,7 +6,7 @@ use kveldrim::Action;
 use reference::lines::{read_line, split_lines, Line};
 use reference::Refusal;
 
-use crate::calls::{bound, named, Asker, OutputCall};
+use crate::asker::{bound, named, Asker, OutputCall};
 use crate::expand::{self, fill_file, lines_of, raw, raw_command, split, wrong_raw, FILE_BOUND};
 use crate::files::{counted, spoil};
 use crate::lent::Output;

@@ -1,154 +1,18 @@
-//! Batches: their lists, right and wrong ones, the single calls of a list, and the name under which each is counted.
+//! Makes batches, with right lists and with wrong ones: of some names, and alone on a state.
 
-use reference::{RecordKind, Refusal, Request, State};
+use reference::State;
 
-use crate::calls::{Ask, Case};
-use crate::edits::{Call, Counted, Kind, List, Wrong};
+use crate::case::Case;
+use crate::edits::{list_of, Call, List};
+use crate::files::{self, Ask};
+use crate::journals;
+use crate::pieces;
 use crate::random::Random;
-use crate::{files, lists, pieces};
-
-/// "A list over 65,536 bytes ... is damaged."
-pub const BOUND: usize = 65_536;
+use crate::requests::{first_record, record, BOUND};
+use crate::singles;
 
 /// The file of [`long`].
 const SHORT_FILE: &[u8] = b"[Desktop Entry]\nName=a\nName[de]=b\n[X]\nName=c";
-
-/// A record of a list with these fields, each behind its length.
-pub fn record(kind: u16, fields: &[&[u8]]) -> Vec<u8> {
-    let four = |length: usize| (length as u32).to_le_bytes();
-    let mut bytes = Vec::new();
-    for field in fields {
-        bytes.extend(four(field.len()));
-        bytes.extend(*field);
-    }
-    let head = [&four(6 + bytes.len())[..], &kind.to_le_bytes()].concat();
-    [head, bytes].concat()
-}
-
-/// The list of these sets and removes.
-pub fn list_of(singles: &[Call]) -> Vec<u8> {
-    let records = singles.iter().map(|single| match single.kind {
-        Kind::Set => record(5, &[&single.group, &single.key, &single.text]),
-        _ => record(6, &[&single.group, &single.key]),
-    });
-    records.collect::<Vec<_>>().concat()
-}
-
-impl Call {
-    /// A batch by a person.
-    pub fn batch(person: u16, requests: Vec<u8>) -> Call {
-        Call {
-            record: RecordKind::Four(person),
-            requests,
-            ..Call::step(Kind::Batch)
-        }
-    }
-
-    /// The single calls of a batch; none if it is no batch or its list is damaged.
-    pub fn singles(&self) -> Option<Vec<Call>> {
-        if self.kind != Kind::Batch {
-            return None;
-        }
-        let single = |request| match request {
-            Request::Set { group, key, text } => Call {
-                record: self.record,
-                group,
-                key,
-                text,
-                ..Call::step(Kind::Set)
-            },
-            Request::Remove { group, key } => Call {
-                record: self.record,
-                group,
-                key,
-                ..Call::step(Kind::Remove)
-            },
-        };
-        let requests = reference::read_requests(&self.requests)?;
-        Some(requests.into_iter().map(single).collect())
-    }
-}
-
-/// The name under which a batch is counted that is refused for the state or the list, with nothing done.
-pub fn fault_of(state: &State, list: &[u8]) -> Option<&'static str> {
-    if state.file_len > state.file.len() as u64 {
-        return Some("batch, file over the room");
-    }
-    let wrong = match Wrong::of(state) {
-        Some(Wrong::UsedOverRoom) => return Some("batch, used over the room"),
-        Some(Wrong::UsedOverBound) => return Some("batch, used over the bound"),
-        Some(Wrong::StandingOverUsed) => return Some("batch, standing over used"),
-        Some(Wrong::Records) => Some("batch, damaged records"),
-        Some(Wrong::StandingInside) => Some("batch, standing inside a record"),
-        None => None,
-    };
-    if reference::check(&state.file[..state.file_len as usize]).is_err() {
-        return Some(match list {
-            [] => "batch, empty on a bad file",
-            _ => "batch on a bad file",
-        });
-    }
-    wrong.or_else(|| list_fault(list))
-}
-
-/// The name of a batch by how far it came.
-pub fn end_of((told, done): Counted<Refusal>) -> Option<&'static str> {
-    Some(match (told, done?) {
-        (Ok(()), 0) => "batch, empty",
-        (Ok(()), _) => "batch, all done",
-        (Err(_), 0) => "batch, stopped at once",
-        (Err(_), _) => "batch, stopped later",
-    })
-}
-
-/// The name of a list's first fault.
-fn list_fault(list: &[u8]) -> Option<&'static str> {
-    if list.len() > BOUND {
-        return Some("batch, list over the bound");
-    }
-    let mut rest = list;
-    while !rest.is_empty() {
-        let Some(record) = first_record(rest) else {
-            return Some("batch, list not filled");
-        };
-        let fields = match u16::from_le_bytes([record[4], record[5]]) {
-            5 => 3,
-            6 => 2,
-            _ => return Some("batch, another kind"),
-        };
-        if ends(record, fields) != Some(record.len() as u64) {
-            return Some(match fills_by_4_bytes(record, fields) {
-                true => "batch, inner lengths that wrap",
-                false => "batch, inner lengths",
-            });
-        }
-        rest = &rest[record.len()..];
-    }
-    None
-}
-
-/// The first record of a list, by its length; none if the list has not so much, or the length is not that of a record.
-fn first_record(list: &[u8]) -> Option<&[u8]> {
-    let length = u32::from_le_bytes(*list.first_chunk()?) as usize;
-    list.get(..length).filter(|record| record.len() >= 6)
-}
-
-/// Where the last of so many fields of a record ends, which may be behind it; none if a length is not there.
-fn ends(record: &[u8], fields: usize) -> Option<u64> {
-    (0..fields).try_fold(6, |at, _| {
-        let length = record.get(usize::try_from(at).ok()?..)?.first_chunk()?;
-        Some(at + 4 + u64::from(u32::from_le_bytes(*length)))
-    })
-}
-
-/// Whether so many fields fill a record for one who reckons with 4 bytes.
-pub fn fills_by_4_bytes(record: &[u8], fields: usize) -> bool {
-    let end = (0..fields).try_fold(6_u32, |at, _| {
-        let length = record.get(at as usize..)?.first_chunk()?;
-        Some(at.wrapping_add(4).wrapping_add(u32::from_le_bytes(*length)))
-    });
-    end == Some(record.len() as u32)
-}
 
 /// A batch of a few requests or none, which share these names; once in `spoilt` there is something wrong with its list.
 pub fn of_names(asks: &[Ask], spoilt: usize, random: &mut Random) -> Call {
@@ -157,12 +21,12 @@ pub fn of_names(asks: &[Ask], spoilt: usize, random: &mut Random) -> Call {
         1..=4 => random.within(1, 3),
         _ => random.within(2, 8),
     };
-    let singles: Vec<Call> = (0..count).map(|_| lists::single(asks, random)).collect();
+    let singles: Vec<Call> = (0..count).map(|_| singles::single(asks, random)).collect();
     let mut requests = list_of(&singles);
     if random.once_in(spoilt) {
         spoil(&mut requests, random);
     }
-    Call::batch(lists::person(random), requests)
+    Call::batch(singles::person(random), requests)
 }
 
 /// A single batch on a state, with names of its file.
@@ -198,7 +62,7 @@ pub fn on_bad_file(random: &mut Random) -> Case {
     let mut file = files::sound(random, 3, 4);
     files::spoil(&mut file, random);
     let more = random.within(0, 60);
-    let start = lists::buffers(&file, more, 200, random);
+    let start = journals::buffers(&file, more, 200, random);
     on_state(start, 4, random)
 }
 
@@ -206,7 +70,7 @@ pub fn on_bad_file(random: &mut Random) -> Case {
 pub fn near_file_bound(random: &mut Random) -> Case {
     let file = files::near_bound(random);
     let more = random.below(40);
-    let start = lists::buffers(&file, more, BOUND, random);
+    let start = journals::buffers(&file, more, BOUND, random);
     on_state(start, 10, random)
 }
 
@@ -215,9 +79,9 @@ pub fn tight(random: &mut Random) -> Case {
     let file = files::sound(random, 3, 4);
     let asks: Vec<Ask> = (0..4).map(|_| files::ask(&file, random)).collect();
     let singles: Vec<Call> = (0..random.within(2, 8))
-        .map(|_| lists::single(&asks, random))
+        .map(|_| singles::single(&asks, random))
         .collect();
-    let mut roomy = lists::buffers(&file, 10_000, 20_000, random);
+    let mut roomy = journals::buffers(&file, 10_000, 20_000, random);
     let mut longest = 0;
     for single in &singles {
         if single.on_state(&mut roomy).is_err() {
@@ -231,8 +95,8 @@ pub fn tight(random: &mut Random) -> Case {
         _ => needed + random.below(3),
     };
     let rooms = (room(longest), room(roomy.used as usize));
-    let start = lists::buffers(&file, rooms.0, rooms.1, random);
-    let person = lists::person(random);
+    let start = journals::buffers(&file, rooms.0, rooms.1, random);
+    let person = singles::person(random);
     alone(start, Call::batch(person, list_of(&singles)))
 }
 
@@ -250,11 +114,11 @@ pub fn long(random: &mut Random) -> Case {
     ];
     let (file_room, journal_room) = rooms[random.below(rooms.len())];
     let more = file_room - SHORT_FILE.len();
-    let mut start = lists::buffers(SHORT_FILE, more, journal_room, random);
+    let mut start = journals::buffers(SHORT_FILE, more, journal_room, random);
     // From here on there is no book, which would take long.
     let _ = Call::set("Name", b"b").on_state(&mut start);
     let list = list_of_length(length, random);
-    alone(start, Call::batch(lists::person(random), list))
+    alone(start, Call::batch(singles::person(random), list))
 }
 
 /// A list of so many bytes, of short requests or of long ones; now and then one that is refused is among them.
@@ -283,7 +147,7 @@ fn list_of_length(length: usize, random: &mut Random) -> Vec<u8> {
 
 /// Puts something wrong into a list: a byte, a kind, one length or two, a wrong record, bytes too many or too few.
 fn spoil(list: &mut Vec<u8>, random: &mut Random) {
-    let starts = lists::records(list);
+    let starts = journals::records(list);
     let start = starts[random.below(starts.len())];
     let lengths = lengths(list, start);
     match random.below(12) {

@@ -2,13 +2,13 @@
 //! from a sound start with an empty journal or with that of 01's calls, against its book.
 
 use kveldrim::{ffi, Buffers, Person};
-use reference::{Book, RecordKind, Refusal, State};
+use reference::{Book, RecordKind, Refusal, Request, State};
 
-use crate::batches;
-use crate::calls::{bound, named, Asker};
+use crate::asker::{bound, named, Asker};
 use crate::lent::{Lent, Numbers};
-use crate::lists;
+use crate::outcomes::{fault_of, forget_of};
 use crate::persons::Question;
+use crate::requests;
 
 #[derive(Clone, Copy, PartialEq, Eq)]
 pub enum Kind {
@@ -129,10 +129,43 @@ impl Call {
         }
     }
 
+    /// A batch by a person.
+    pub fn batch(person: u16, requests: Vec<u8>) -> Call {
+        Call {
+            record: RecordKind::Four(person),
+            requests,
+            ..Call::step(Kind::Batch)
+        }
+    }
+
     /// The same as a call of 01's.
     pub fn old(mut self) -> Call {
         self.record = RecordKind::One;
         self
+    }
+
+    /// The single calls of a batch; none if it is no batch or its list is damaged.
+    pub fn singles(&self) -> Option<Vec<Call>> {
+        if self.kind != Kind::Batch {
+            return None;
+        }
+        let single = |request| match request {
+            Request::Set { group, key, text } => Call {
+                record: self.record,
+                group,
+                key,
+                text,
+                ..Call::step(Kind::Set)
+            },
+            Request::Remove { group, key } => Call {
+                record: self.record,
+                group,
+                key,
+                ..Call::step(Kind::Remove)
+            },
+        };
+        let requests = reference::read_requests(&self.requests)?;
+        Some(requests.into_iter().map(single).collect())
     }
 
     pub fn name(&self) -> &'static str {
@@ -224,6 +257,15 @@ impl Call {
     }
 }
 
+/// The list of these sets and removes.
+pub fn list_of(singles: &[Call]) -> Vec<u8> {
+    let records = singles.iter().map(|single| match single.kind {
+        Kind::Set => requests::record(5, &[&single.group, &single.key, &single.text]),
+        _ => requests::record(6, &[&single.group, &single.key]),
+    });
+    records.collect::<Vec<_>>().concat()
+}
+
 impl List {
     /// The file's bytes, as far as the buffer has them.
     pub fn file(&self) -> &[u8] {
@@ -256,7 +298,7 @@ impl List {
             let mut singles = batch.singles().unwrap_or_default();
             if request < singles.len() {
                 singles.remove(request);
-                batch.requests = batches::list_of(&singles);
+                batch.requests = list_of(&singles);
                 return Some(list);
             }
             request -= singles.len();
@@ -346,15 +388,25 @@ fn counted(call: &Call, state: &mut State) -> (Counted<Refusal>, &'static str) {
     let before = state.standing;
     let name = match call.kind {
         Kind::Forget(k) => Some(forget_of(k, state)),
-        Kind::Batch => batches::fault_of(state, &call.requests),
+        Kind::Batch => fault_of(state, &call.requests),
         _ => None,
     };
     let told = call.counted_on_state(state);
     let name = name
         .or_else(|| step_of_kind_1(call, before, state))
-        .or_else(|| batches::end_of(told))
+        .or_else(|| end_of(told))
         .unwrap_or(call.name());
     (told, name)
+}
+
+/// The name of a batch by how far it came.
+fn end_of((told, done): Counted<Refusal>) -> Option<&'static str> {
+    Some(match (told, done?) {
+        (Ok(()), 0) => "batch, empty",
+        (Ok(()), _) => "batch, all done",
+        (Err(_), 0) => "batch, stopped at once",
+        (Err(_), _) => "batch, stopped later",
+    })
 }
 
 /// The name of an undo or redo that went over a record of the kind 1, from this standing number to that of `state`.
@@ -366,61 +418,6 @@ fn step_of_kind_1(call: &Call, before: u64, state: &State) -> Option<&'static st
     };
     let start = before.min(state.standing) as usize;
     (before != state.standing && state.journal[start + 4] == 1).then_some(name)
-}
-
-/// What is wrong with the numbers of a journal, or with its records.
-pub enum Wrong {
-    UsedOverRoom,
-    UsedOverBound,
-    StandingOverUsed,
-    Records,
-    StandingInside,
-}
-
-impl Wrong {
-    /// What is wrong with the journal of a state.
-    pub fn of(state: &State) -> Option<Wrong> {
-        let (used, standing) = (state.used, state.standing);
-        let is_14 = |standing| {
-            let told = reference::person(&state.journal, used, standing, 0);
-            told.is_err_and(|refusal| refusal.number == 14)
-        };
-        if used > state.journal.len() as u64 {
-            return Some(Wrong::UsedOverRoom);
-        }
-        if used > kveldrim::JOURNAL_BOUND as u64 {
-            return Some(Wrong::UsedOverBound);
-        }
-        if standing > used {
-            return Some(Wrong::StandingOverUsed);
-        }
-        if is_14(0) {
-            return Some(Wrong::Records);
-        }
-        is_14(standing).then_some(Wrong::StandingInside)
-    }
-}
-
-/// The name under which a forget on such a state is counted: what is wrong with the state, or how many are to go.
-fn forget_of(k: u64, state: &State) -> &'static str {
-    if let Some(wrong) = Wrong::of(state) {
-        return match wrong {
-            Wrong::UsedOverRoom => "forget, used over the room",
-            Wrong::UsedOverBound => "forget, used over the bound",
-            Wrong::StandingOverUsed => "forget, standing over used",
-            Wrong::Records => "forget, damaged records",
-            Wrong::StandingInside => "forget, standing inside a record",
-        };
-    }
-    let (used, standing) = (state.used, state.standing);
-    let count = |bytes| lists::count(&state.journal, bytes);
-    match (k, count(standing)) {
-        (0, _) => "forget none",
-        (k, _) if k > count(used) => "forget more than there are",
-        (k, stand) if k > stand => "forget some that wait",
-        (k, stand) if k == stand => "forget all that stand",
-        _ => "forget some that stand",
-    }
 }
 
 impl Asker {

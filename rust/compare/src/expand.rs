@@ -7,7 +7,7 @@ use kveldrim::ffi::{kveldrim_expand, kveldrim_expand_action};
 use kveldrim::DESKTOP_ENTRY;
 use reference::Refusal;
 
-use crate::calls::{refusal, Asker};
+use crate::asker::{refusal, Asker};
 use crate::files::spoil;
 use crate::lent::Output;
 use crate::pieces::{self, MULLER};

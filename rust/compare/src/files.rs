@@ -2,7 +2,6 @@
 
 use reference::lines::{read_line, split_lines, Line};
 
-use crate::calls::{Ask, Case};
 use crate::pieces::{self, BORDERS, KEY_BYTES, MULLER};
 use crate::random::Random;
 
@@ -10,6 +9,32 @@ const HEADER: &[u8] = b"[Desktop Entry]\n";
 
 /// "A file is at most 32,768 bytes."
 const BOUND: usize = 32_768;
+
+/// The arguments of a lookup (group, key) and of a choice (group, plain key, locale).
+#[derive(Clone)]
+pub struct Ask {
+    pub group: Vec<u8>,
+    pub key: Vec<u8>,
+    pub plain: Vec<u8>,
+    pub locale: Vec<u8>,
+}
+
+/// A file, and what is looked up and chosen in it.
+#[derive(Clone)]
+pub struct Question {
+    pub file: Vec<u8>,
+    pub asks: Vec<Ask>,
+}
+
+impl Question {
+    /// The same of another file.
+    pub fn about(&self, file: Vec<u8>) -> Question {
+        Question {
+            file,
+            ..self.clone()
+        }
+    }
+}
 
 /// An entry's line, with spaces around `=` now and then.
 fn entry(key: &[u8], postfix: Option<&[u8]>, value: &[u8], random: &mut Random) -> Vec<u8> {
@@ -403,7 +428,7 @@ pub fn near_bound(random: &mut Random) -> Vec<u8> {
 }
 
 /// A file and questions with a name, key or part of a locale that is very long; near the bound, or far over it.
-pub fn long_names(random: &mut Random) -> Case {
+pub fn long_names(random: &mut Random) -> Question {
     let mut lengths = [(); 6].map(|()| random.within(1, 4));
     for _ in 0..random.within(1, 2) {
         let long = match random.below(5) {
@@ -462,7 +487,7 @@ pub fn long_names(random: &mut Random) -> Case {
         2 => &mut ask.plain,
         3 => &mut ask.locale,
         _ => {
-            return Case::File {
+            return Question {
                 file,
                 asks: vec![ask],
             }
@@ -472,7 +497,7 @@ pub fn long_names(random: &mut Random) -> Case {
         0 => changed.push(random.byte_of(b"aA-=")),
         _ => drop(changed.pop()),
     }
-    Case::File {
+    Question {
         file,
         asks: vec![ask],
     }
@@ -566,9 +591,9 @@ pub fn long_text(random: &mut Random) -> Vec<u8> {
 }
 
 /// A question: the file, and names in it to look up and choose.
-pub fn asked(file: Vec<u8>, asks: usize, random: &mut Random) -> Case {
+pub fn asked(file: Vec<u8>, asks: usize, random: &mut Random) -> Question {
     let asks = (0..asks).map(|_| ask(&file, random)).collect();
-    Case::File { file, asks }
+    Question { file, asks }
 }
 
 /// A group and a key that stand in the file, mostly.

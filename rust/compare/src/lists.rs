@@ -4,29 +4,18 @@
 use reference::{RecordKind, State};
 
 use crate::batches;
-use crate::calls::{Ask, Case};
+use crate::case::Case;
 use crate::edits::{Call, Kind, List};
 use crate::files;
+use crate::journals::{buffers, count, record, records};
 use crate::persons::Question;
 use crate::pieces::{self, BORDERS};
 use crate::random::Random;
+use crate::singles::{call, person, single};
 
 /// "A file is at most 32,768 bytes", and a journal uses at most 65,536.
 const FILE_BOUND: usize = 32_768;
 const JOURNAL_BOUND: usize = 65_536;
-
-/// A file with room behind it and an empty journal; what is not the file holds a pattern.
-pub fn buffers(file: &[u8], file_more: usize, journal_room: usize, random: &mut Random) -> State {
-    let first = random.below(256);
-    let pattern = |length: usize| (0..length).map(move |at| (first + at * 167) as u8);
-    State {
-        file: file.iter().copied().chain(pattern(file_more)).collect(),
-        file_len: file.len() as u64,
-        journal: pattern(journal_room).collect(),
-        used: 0,
-        standing: 0,
-    }
-}
 
 /// A file in a buffer with little room or enough, and a journal for none, a few or many records.
 fn roomy(file: &[u8], random: &mut Random) -> State {
@@ -121,60 +110,6 @@ fn how_many(state: &State, random: &mut Random) -> u64 {
     }
 }
 
-/// A person: one at a border of the two bytes, or any.
-pub fn person(random: &mut Random) -> u16 {
-    match random.below(8) {
-        0 => 0,
-        1 => 1,
-        2 => 255,
-        3 => 256,
-        4 => 65_535,
-        _ => random.number() as u16,
-    }
-}
-
-/// A set or a remove of one of these names.
-pub fn single(asks: &[Ask], random: &mut Random) -> Call {
-    let ask = &asks[random.below(asks.len())];
-    let kind = match random.once_in(3) {
-        true => Kind::Remove,
-        false => Kind::Set,
-    };
-    let key = match random.once_in(4) {
-        true => &ask.plain,
-        false => &ask.key,
-    };
-    call(kind, &ask.group, key, random)
-}
-
-/// A call, with as many arguments as its kind takes.
-fn call(kind: Kind, group: &[u8], key: &[u8], random: &mut Random) -> Call {
-    let mut call = Call::step(kind);
-    if matches!(kind, Kind::Set | Kind::Remove) {
-        call.record = RecordKind::Four(person(random));
-        (call.group, call.key) = (group.to_vec(), key.to_vec());
-    }
-    if kind == Kind::Set {
-        call.text = text(random);
-    }
-    call
-}
-
-/// A text to set: mostly fit, with what must be escaped, or unfit, or long.
-fn text(random: &mut Random) -> Vec<u8> {
-    match random.below(12) {
-        0 => pieces::wild(random, 10),
-        1 => pieces::text(random),
-        2 => vec![random.byte_of(b"a \n\\"); random.within(30, 400)],
-        3 => [b" ", &pieces::letters(random)[..]].concat(),
-        4 => (0..random.within(0, 4))
-            .map(|_| random.byte_of(b"\n\t\r\\ a\x01\x1F\x7F"))
-            .collect(),
-        5 => Vec::new(),
-        _ => pieces::value(random, pieces::SOUND),
-    }
-}
-
 /// A state with edits of up to so many calls in its journal, some of them undone, some of 01's calls.
 fn worked(most: usize, random: &mut Random) -> State {
     let file = files::sound(random, 3, 4);
@@ -265,39 +200,6 @@ fn odd(right: u64, room: usize, random: &mut Random) -> u64 {
         _ => right,
     };
     near.wrapping_add(random.number() % 5).wrapping_sub(2)
-}
-
-/// Where the records of journal bytes start, by their lengths, and where the last ends.
-pub fn records(used: &[u8]) -> Vec<usize> {
-    let mut starts = vec![0];
-    let mut at = 0;
-    while let Some(length) = used[at..].first_chunk() {
-        let length = u32::from_le_bytes(*length) as usize;
-        if length == 0 || length > used.len() - at {
-            break;
-        }
-        at += length;
-        starts.push(at);
-    }
-    starts
-}
-
-/// How many records these first bytes of a journal have, by their lengths.
-pub fn count(journal: &[u8], bytes: u64) -> u64 {
-    let bytes = journal.len().min(bytes as usize);
-    records(&journal[..bytes]).len() as u64 - 1
-}
-
-/// A journal's record.
-pub fn record(kind: RecordKind, place: usize, old: &[u8], new: &[u8]) -> Vec<u8> {
-    let front = match kind {
-        RecordKind::One => vec![1, 0],
-        RecordKind::Four(person) => [[4, 0], person.to_le_bytes()].concat(),
-    };
-    let length = 16 + front.len() + old.len() + new.len();
-    let four = |number: usize| (number as u32).to_le_bytes();
-    let head = [four(place), four(old.len()), four(new.len())];
-    [&four(length)[..], &front, &head.concat(), old, new].concat()
 }
 
 /// The kind of a record, with any person.

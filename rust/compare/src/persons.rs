@@ -3,9 +3,9 @@
 use kveldrim::{ffi, Buffers, Person};
 use reference::Refusal;
 
-use crate::calls::{bound, named, Asker};
+use crate::asker::{bound, named, Asker};
+use crate::journals;
 use crate::lent::Numbers;
-use crate::lists;
 
 /// A journal's buffer with its numbers, and which record is asked for.
 #[derive(Clone)]
@@ -80,7 +80,7 @@ impl Question {
     /// The same without one of the journal's records; none if there is no such record.
     pub fn without(&self, record: usize) -> Option<Question> {
         let used = self.journal.len().min(self.used as usize);
-        let ends = lists::records(&self.journal[..used]);
+        let ends = journals::records(&self.journal[..used]);
         let (start, end) = (*ends.get(record)?, *ends.get(record + 1)?);
         let mut question = self.about([&self.journal[..start], &self.journal[end..]].concat());
         question.n -= u64::from((record as u64) < self.n);

@@ -5,7 +5,8 @@
 
 use std::env;
 
-use crate::calls::{Asker, Case, Tally};
+use crate::asker::{Asker, Tally};
+use crate::case::Case;
 use crate::random::{mix, Random};
 
 /// Calls, each with numbers that it gives, 0 for an answer.

@@ -2,7 +2,8 @@
 //! See `compare::run` for replaying.
 
 use compare::actions::{self, expansion, expansion_of, many, of_file, question, Question};
-use compare::calls::{Asker, Case};
+use compare::asker::Asker;
+use compare::case::Case;
 use compare::expand;
 use compare::pieces::SOUND;
 use compare::random::Random;

@@ -1,12 +1,13 @@
 //! Batches by single calls in generated buffers, seeded: the library, its bindings and the reference must agree. And what 02's A4 says
 //! of a batch and its single calls, tried on the library. See `compare::run` for replaying.
 
-use compare::batches::{self, list_of};
-use compare::calls::{Asker, Case};
-use compare::edits::{with_buffers, Call, Kind, List};
+use compare::asker::Asker;
+use compare::batches;
+use compare::case::Case;
+use compare::edits::{list_of, with_buffers, Call, Kind, List};
 use compare::random::Random;
 use compare::run::{came_up, each, run, Outcomes};
-use compare::{files, lists};
+use compare::{files, journals, lists, singles};
 use kveldrim::{Person, Refusal, Request};
 use reference::{RecordKind, State};
 
@@ -185,7 +186,7 @@ fn lists_of_every_length_byte_and_kind() {
         other
     });
     let mut asker = Asker::new(11);
-    let start = lists::buffers(b"[Desktop Entry]\nA=1\nB=2", 9, 200, &mut Random::new(11));
+    let start = journals::buffers(b"[Desktop Entry]\nA=1\nB=2", 9, 200, &mut Random::new(11));
     for requests in lengths.chain(bits).chain(kinds) {
         let list = List {
             start: start.clone(),
@@ -214,7 +215,7 @@ fn lists_of_every_length_byte_and_kind() {
 fn lists_with_a_call_or_a_request_less() {
     let singles = [Call::set("A", b"x"), remove("B"), Call::set("C", b"y")];
     let list = List {
-        start: lists::buffers(T, 0, 0, &mut Random::new(12)),
+        start: journals::buffers(T, 0, 0, &mut Random::new(12)),
         old_calls: Vec::new(),
         calls: vec![
             Call::batch(1, list_of(&singles[..1])),
@@ -287,7 +288,7 @@ impl Counts {
             return;
         }
         assert_eq!((told, done, left.clone()), in_turn(state, singles));
-        let stand = |state: &State| lists::count(&state.journal, state.standing);
+        let stand = |state: &State| journals::count(&state.journal, state.standing);
         assert_eq!(stand(&left), stand(state) + done);
         match told.map_err(|refusal| refusal.kind) {
             Ok(()) => self.all_done += 1,
@@ -329,7 +330,7 @@ fn is_undone(state: &State, batch: &Call) {
     assert_eq!((file(&back), back.standing), (file(state), state.standing));
     let again = steps(&back, Kind::Redo);
     assert_eq!((file(&again), again.standing), (file(&left), left.standing));
-    let stand = lists::count(&left.journal, left.standing);
+    let stand = journals::count(&left.journal, left.standing);
     with_buffers(&mut left.clone(), |buffers| {
         for n in stand - done..stand {
             assert_eq!(buffers.person(n), Ok(Person(batch.record.person())));
@@ -357,9 +358,9 @@ fn a_batch_and_its_single_calls() {
             _ => lists::worked_journal(random),
         };
         let asks: Vec<_> = (0..3).map(|_| files::ask(file(&state), random)).collect();
-        let person = lists::person(random);
+        let person = singles::person(random);
         let mut singles: Vec<Call> = (0..random.within(0, 7))
-            .map(|_| lists::single(&asks, random))
+            .map(|_| singles::single(&asks, random))
             .collect();
         for single in &mut singles {
             single.record = RecordKind::Four(person);

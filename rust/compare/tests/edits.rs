@@ -1,11 +1,12 @@
 //! Generated lists of calls that edit, seeded: after every call the library, its bindings, the reference's journal and, from
 //! a sound start, its book must agree. See `compare::run` for replaying.
 
-use compare::calls::{Asker, Case};
+use compare::asker::Asker;
+use compare::case::Case;
 use compare::edits::{Call, Kind, List};
 use compare::random::Random;
 use compare::run::{calls, came_up, run, Outcomes};
-use compare::{files, lists};
+use compare::{files, journals, lists};
 use reference::RecordKind;
 
 const SOUND: u64 = 60_000;
@@ -214,7 +215,7 @@ fn records_of_every_kind_and_length() {
     let mut random = Random::new(6);
     for (journal, used) in lists::single_records() {
         for call in &calls {
-            let mut start = lists::buffers(lists::SINGLE, 10, 0, &mut random);
+            let mut start = journals::buffers(lists::SINGLE, 10, 0, &mut random);
             (start.journal, start.used) = (journal.clone(), used);
             if matches!(call.kind, Kind::Undo | Kind::Forget(_)) {
                 start.standing = used;
@@ -244,7 +245,7 @@ fn records_of_every_kind_and_length() {
 /// What the reference tells of each call from an empty journal on, once all agree on it. The first so many are 01's.
 fn told(file: &[u8], rooms: (usize, usize), mut calls: Vec<Call>, old: usize) -> Vec<u32> {
     let mut random = Random::new(4);
-    let start = lists::buffers(file, rooms.0 - file.len(), rooms.1, &mut random);
+    let start = journals::buffers(file, rooms.0 - file.len(), rooms.1, &mut random);
     let old_calls: Vec<Call> = calls.drain(..old).map(Call::old).collect();
     let mut state = start.clone();
     let all = old_calls.iter().chain(&calls);

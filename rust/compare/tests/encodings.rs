@@ -1,8 +1,9 @@
 //! What 02's A3 says of keys that carry an encoding, in every short file of them: the library and the reference must agree.
 
 use compare::actions;
-use compare::calls::{Ask, Asker};
+use compare::asker::Asker;
 use compare::expand::Question;
+use compare::files::Ask;
 use compare::run::have_encodings;
 
 /// Every locale of one lang with or without a country, one of two encodings and a modifier.

@@ -1,6 +1,7 @@
 //! Generated expansions, seeded: the library and the reference must agree on every one. See `compare::run` for replaying.
 
-use compare::calls::{Asker, Case};
+use compare::asker::Asker;
+use compare::case::Case;
 use compare::expand::{large_question, of_names, question, Question};
 use compare::pieces::SOUND;
 use compare::run::{came_up, run, run_with_encodings, Outcomes};

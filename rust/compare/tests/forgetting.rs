@@ -1,11 +1,12 @@
 //! Edits forgotten by single calls in generated journals, seeded: the library, its bindings and the reference must agree. And what
 //! 02's A10 says of forgetting beside the other calls, tried on the library. See `compare::run` for replaying.
 
-use compare::calls::{Asker, Case};
+use compare::asker::Asker;
+use compare::case::Case;
 use compare::edits::{with_buffers, Call, Kind, List};
 use compare::random::Random;
 use compare::run::{came_up, each, run, Outcomes};
-use compare::{files, lists};
+use compare::{files, journals, lists};
 use kveldrim::{Document, Person, Refusal, JOURNAL_BOUND};
 use reference::{RecordKind, State};
 
@@ -60,7 +61,7 @@ fn damaged_journals_and_wrong_numbers() {
 #[test]
 fn numbers_of_every_size() {
     let records = [RecordKind::One, RecordKind::Four(7), RecordKind::One]
-        .map(|kind| lists::record(kind, 18, b"a", b"bc"));
+        .map(|kind| journals::record(kind, 18, b"a", b"bc"));
     let records = records.concat();
     let more = records.len() + 3;
     let mut asker = Asker::new(8);
@@ -68,7 +69,7 @@ fn numbers_of_every_size() {
         for used in 0..=more as u64 {
             for standing in 0..=more as u64 {
                 for k in [0, 1, 2, 3, 4, u64::MAX] {
-                    let mut start = lists::buffers(lists::SINGLE, 0, room, &mut Random::new(8));
+                    let mut start = journals::buffers(lists::SINGLE, 0, room, &mut Random::new(8));
                     let length = room.min(records.len());
                     start.journal[..length].copy_from_slice(&records[..length]);
                     (start.used, start.standing) = (used, standing);
@@ -92,8 +93,8 @@ fn numbers_of_every_size() {
 #[test]
 fn lists_with_a_call_or_a_record_less() {
     let [first, second] =
-        [1, 2].map(|person| lists::record(RecordKind::Four(person), 18, b"a", b"bc"));
-    let mut start = lists::buffers(lists::SINGLE, 0, 0, &mut Random::new(9));
+        [1, 2].map(|person| journals::record(RecordKind::Four(person), 18, b"a", b"bc"));
+    let mut start = journals::buffers(lists::SINGLE, 0, 0, &mut Random::new(9));
     start.journal = [&first[..], &second, b"behind"].concat();
     (start.used, start.standing) = (46, 23);
     let list = List {
@@ -139,7 +140,7 @@ fn twice_is_once() {
             1 => lists::foreign_journal(random),
             _ => lists::worked_journal(random),
         };
-        let most = lists::count(&state.journal, state.standing) + 2;
+        let most = journals::count(&state.journal, state.standing) + 2;
         let first = random.number() % most;
         let more = random.number() % (most - first);
         let (told, left) = step(&state, Kind::Forget(first));
@@ -183,7 +184,7 @@ struct Counts {
 impl Counts {
     /// The laws of undo, redo and persons, after so many edits were forgotten.
     fn steps(&mut self, state: &State, k: u64, forgot: &State) {
-        let stand = lists::count(&state.journal, state.standing);
+        let stand = journals::count(&state.journal, state.standing);
         for kind in [Kind::Undo, Kind::Redo] {
             let (told, left) = step(state, kind);
             let (told_after, left_after) = step(forgot, kind);
@@ -210,7 +211,7 @@ impl Counts {
         let persons = |state: &State| {
             let used = &state.journal[..state.used as usize];
             let document = Document::with_journal(b"", used, state.standing);
-            let all = lists::count(&state.journal, state.used) + 1;
+            let all = journals::count(&state.journal, state.used) + 1;
             (0..all)
                 .map(move |n| document.person(n))
                 .collect::<Vec<Result<Person, Refusal>>>()
@@ -308,7 +309,7 @@ fn forgetting_beside_the_other_calls() {
 
 /// What is left of a state after each number of the edits that stand is forgotten; none where the journal is not sound.
 fn forgotten(state: &State) -> Vec<(u64, State)> {
-    let stand = lists::count(&state.journal, state.standing);
+    let stand = journals::count(&state.journal, state.standing);
     let counts = (0..=stand).map(|k| (k, step(state, Kind::Forget(k))));
     counts
         .filter_map(|(k, (told, left))| told.is_ok().then_some((k, left)))

@@ -1,6 +1,7 @@
 //! Generated questions, seeded: the library and the reference must agree on every one. See `compare::run` for replaying.
 
-use compare::calls::{Asker, Case};
+use compare::asker::Asker;
+use compare::case::Case;
 use compare::files;
 use compare::pieces::{self, BORDERS, UTF8_BORDERS};
 use compare::run::{came_up, run, run_with_encodings, Outcomes};
@@ -37,7 +38,7 @@ fn sound_files() {
     ];
     run("sound_files", SOUND, outcomes, |random| {
         let file = files::sound(random, 4, 6);
-        files::asked(file, 3, random)
+        Case::File(files::asked(file, 3, random))
     });
 }
 
@@ -54,7 +55,7 @@ fn spoilt_files() {
         for _ in 0..random.within(1, 2) {
             files::spoil(&mut file, random);
         }
-        files::asked(file, 2, random)
+        Case::File(files::asked(file, 2, random))
     });
 }
 
@@ -63,7 +64,7 @@ fn lines_of_all_kinds() {
     let outcomes: Outcomes = &[("check", &[0, 2, 3, 4, 5, 6])];
     run("lines_of_all_kinds", LINES, outcomes, |random| {
         let file = files::lines(random);
-        files::asked(file, 1, random)
+        Case::File(files::asked(file, 1, random))
     });
 }
 
@@ -75,7 +76,7 @@ fn wild_files() {
         if random.once_in(2) {
             file.splice(0..0, *b"[Desktop Entry]\n");
         }
-        files::asked(file, 1, random)
+        Case::File(files::asked(file, 1, random))
     });
 }
 
@@ -87,7 +88,7 @@ fn nearly_complete_files() {
         if random.once_in(4) {
             files::spoil(&mut file, random);
         }
-        files::asked(file, 1, random)
+        Case::File(files::asked(file, 1, random))
     });
 }
 
@@ -97,7 +98,7 @@ fn languages() {
     let choices = [("choose", 3_000)];
     run_with_encodings("languages", LANGUAGES, outcomes, &choices, |random| {
         let file = files::many_languages(random);
-        files::asked(file, 4, random)
+        Case::File(files::asked(file, 4, random))
     });
 }
 
@@ -109,7 +110,7 @@ fn longer_files() {
         if random.once_in(2) {
             files::spoil(&mut file, random);
         }
-        files::asked(file, 2, random)
+        Case::File(files::asked(file, 2, random))
     });
 }
 
@@ -118,7 +119,7 @@ fn hundreds_of_names() {
     let outcomes: Outcomes = &[("check", &[0, 4, 5, 6]), ("lookup", &[0, 8])];
     run("hundreds_of_names", HUNDREDS, outcomes, |random| {
         let file = files::many_names(random, 4_000);
-        files::asked(file, 2, random)
+        Case::File(files::asked(file, 2, random))
     });
 }
 
@@ -127,7 +128,7 @@ fn thousands_of_names() {
     let outcomes: Outcomes = &[("check", &[0, 4, 5, 6]), ("lookup", &[0])];
     run("thousands_of_names", THOUSANDS, outcomes, |random| {
         let file = files::many_names(random, 32_768);
-        files::asked(file, 1, random)
+        Case::File(files::asked(file, 1, random))
     });
 }
 
@@ -136,7 +137,7 @@ fn files_near_the_bound() {
     let outcomes: Outcomes = &[("check", &[0, 1, 2]), ("lookup", &[0, 1])];
     run("files_near_the_bound", NEAR_BOUND, outcomes, |random| {
         let file = files::near_bound(random);
-        files::asked(file, 2, random)
+        Case::File(files::asked(file, 2, random))
     });
 }
 
@@ -148,13 +149,9 @@ fn long_names() {
         ("choose", &[0, 7, 8]),
     ];
     let choices = [("choose", 100)];
-    run_with_encodings(
-        "long_names",
-        LONG_NAMES,
-        outcomes,
-        &choices,
-        files::long_names,
-    );
+    run_with_encodings("long_names", LONG_NAMES, outcomes, &choices, |random| {
+        Case::File(files::long_names(random))
+    });
 }
 
 #[test]

@@ -4,7 +4,7 @@
 use compare::edits::{Call, Kind};
 use compare::random::Random;
 use compare::run::each;
-use compare::{files, lists, pieces};
+use compare::{files, pieces, singles};
 use kveldrim::{Document, Refusal};
 use reference::RecordKind;
 
@@ -75,7 +75,7 @@ fn call(kind: Kind, Name { group, key }: &Name, random: &mut Random) -> Call {
         false => pieces::value(random, pieces::SOUND),
     };
     Call {
-        record: RecordKind::Four(lists::person(random)),
+        record: RecordKind::Four(singles::person(random)),
         group: group.clone(),
         key: key.clone(),
         text,

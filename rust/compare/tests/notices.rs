@@ -1,10 +1,11 @@
 //! The comparison itself: what it must notice, it does.
 
-use compare::calls::{Asker, Case};
+use compare::asker::Asker;
+use compare::case::Case;
 use compare::edits::{proved, Call, Given, Kind, List, Page};
 use compare::lent::{Lent, Numbers};
 use compare::random::Random;
-use compare::{files, lists, persons};
+use compare::{files, journals, lists, persons};
 use kveldrim::{ffi, JOURNAL_BOUND};
 use reference::{Book, RecordKind, Refusal, State};
 
@@ -437,7 +438,7 @@ fn is_forget_noticed(forget: Forget) -> bool {
 /// Forgets and asks nothing: the records are found by their lengths alone, those that wait too. 12 where there are not so many.
 fn unasked(journal: &mut [u8], used: &mut u64, standing: &mut u64, k: u64) -> Result<(), Refusal> {
     let used_bytes = &mut journal[..*used as usize];
-    let starts = lists::records(used_bytes);
+    let starts = journals::records(used_bytes);
     let went = usize::try_from(k).ok().and_then(|k| starts.get(k));
     let went = *went.ok_or(Refusal::new(12))?;
     used_bytes[..went].fill(0);
@@ -472,7 +473,7 @@ fn forget_others(
     k: u64,
     other: fn(u64, u64) -> u64,
 ) -> Result<(), Refusal> {
-    let stand = lists::count(journal, *standing);
+    let stand = journals::count(journal, *standing);
     let (mut as_used, mut as_standing) = (*used, *standing);
     reference::forget(&mut journal.to_vec(), &mut as_used, &mut as_standing, k)?;
     reference::forget(journal, used, standing, other(k, stand))
@@ -540,7 +541,7 @@ fn edits_that_are_forgotten_wrongly() {
             "the newest, not the oldest",
             |journal, used, standing, k| {
                 let (end, stood) = (*used as usize, *standing as usize);
-                let starts = lists::records(&journal[..stood.min(journal.len())]);
+                let starts = journals::records(&journal[..stood.min(journal.len())]);
                 reference::forget(&mut journal.to_vec(), used, standing, k)?;
                 let start = starts[starts.len() - 1 - k as usize];
                 journal[start..stood].fill(0);
@@ -550,7 +551,7 @@ fn edits_that_are_forgotten_wrongly() {
             },
         ),
         ("as many as there are", |journal, used, standing, k| {
-            let stand = lists::count(journal, *standing);
+            let stand = journals::count(journal, *standing);
             reference::forget(journal, used, standing, k.min(stand))
         }),
         ("waiting ones make it up", |journal, used, standing, k| {
@@ -572,7 +573,7 @@ fn edits_that_are_forgotten_wrongly() {
             reference::forget(journal, used, standing, k & 0xFFFF_FFFF)
         }),
         ("12 before 14", |journal, used, standing, k| {
-            match k > lists::count(journal, *standing) {
+            match k > journals::count(journal, *standing) {
                 true => Err(Refusal::new(12)),
                 false => reference::forget(journal, used, standing, k),
             }
@@ -606,7 +607,7 @@ fn edits_that_are_forgotten_wrongly() {
         (
             "a standing number inside a record",
             |journal, used, standing, k| {
-                let are_there = k <= lists::count(journal, *standing);
+                let are_there = k <= journals::count(journal, *standing);
                 let is_between = *standing <= *used && is_sound(journal, *used, 0);
                 despite(journal, (used, standing), k, are_there && is_between)
             },
@@ -776,7 +777,7 @@ fn used_bytes(given: &persons::Given) -> Vec<u8> {
 /// The record that is asked for, with its start, as far as the lengths of records lead to it.
 fn asked(given: &persons::Given) -> Option<(u64, Vec<u8>)> {
     let used = used_bytes(given);
-    let starts = lists::records(&used);
+    let starts = journals::records(&used);
     let n = usize::try_from(given.n).ok()?;
     let (start, end) = (*starts.get(n)?, *starts.get(n.checked_add(1)?)?);
     Some((start as u64, used[start..end].to_vec()))

@@ -1,7 +1,7 @@
 //! The comparison of actions (02's A1): what it must notice, it does.
 
 use compare::actions::{self, expansion, group_identifiers, question};
-use compare::calls::{Asker, OutputCall};
+use compare::asker::{Asker, OutputCall};
 use compare::expand::{self, Given};
 use compare::files::{self, Entry};
 use compare::lent::{bytes, Output};

@@ -1,10 +1,11 @@
 //! The comparison of batches: what it must notice, it does.
 
+use compare::asker::Asker;
 use compare::batches;
-use compare::calls::{Asker, Case};
+use compare::case::Case;
 use compare::edits::{proved, Call, Given};
-use compare::lists;
 use compare::random::Random;
+use compare::{journals, lists, requests};
 use reference::{Batch, RecordKind, Refusal, Request, State};
 
 /// A case about a single batch, of each sort that the tests make; long ones seldom.
@@ -149,7 +150,7 @@ fn trying(
 
 /// The requests of a list of any length, each record read so.
 fn unbounded(list: &[u8], read: impl Fn(&[u8]) -> Option<Request>) -> Option<Vec<Request>> {
-    let starts = lists::records(list);
+    let starts = journals::records(list);
     if starts.last() != Some(&list.len()) {
         return None;
     }
@@ -159,7 +160,7 @@ fn unbounded(list: &[u8], read: impl Fn(&[u8]) -> Option<Request>) -> Option<Vec
 
 /// The requests of a list that is not too long, each record read so.
 fn by_records(list: &[u8], read: impl Fn(&[u8]) -> Option<Request>) -> Option<Vec<Request>> {
-    match list.len() <= batches::BOUND {
+    match list.len() <= requests::BOUND {
         true => unbounded(list, read),
         false => None,
     }
@@ -198,7 +199,7 @@ fn fields(record: &[u8]) -> (Vec<&[u8]>, &[u8]) {
 fn with_fields(record: &[u8], fields: &[&[u8]]) -> Option<Request> {
     let kind = record.get(4..6)?;
     let kind = u16::from_le_bytes([kind[0], kind[1]]);
-    right(&batches::record(kind, fields))
+    right(&requests::record(kind, fields))
 }
 
 /// A list that is read wrongly, in a batch that is right but for this.
@@ -210,7 +211,7 @@ fn a_list_that_is_read_wrongly() {
         }),
         ("bytes behind the last record", |state, person, list| {
             reading(state, person, list, |list| {
-                let end = lists::records(list).pop()?;
+                let end = journals::records(list).pop()?;
                 match list.len() - end < 6 {
                     true => reference::read_requests(&list[..end]),
                     false => reference::read_requests(list),
@@ -219,7 +220,7 @@ fn a_list_that_is_read_wrongly() {
         }),
         ("a record of no length ends it", |state, person, list| {
             reading(state, person, list, |list| {
-                let end = lists::records(list).pop()?;
+                let end = journals::records(list).pop()?;
                 match list[end..].starts_with(&[0; 4]) {
                     true => reference::read_requests(&list[..end]),
                     false => reference::read_requests(list),
@@ -257,7 +258,7 @@ fn a_list_that_is_read_wrongly() {
         }),
         ("lengths that wrap", |state, person, list| {
             reading(state, person, list, |list| {
-                by_records(list, |record| match batches::fills_by_4_bytes(record, 3) {
+                by_records(list, |record| match requests::fills_by_4_bytes(record, 3) {
                     true => right(record).or(Some(Request::Remove {
                         group: Vec::new(),
                         key: Vec::new(),
@@ -283,10 +284,10 @@ fn a_list_that_is_read_wrongly() {
                 by_records(list, |record| {
                     let (mut fields, _) = fields(record);
                     match right(record)? {
-                        Request::Set { .. } => right(&batches::record(6, &fields[..2])),
+                        Request::Set { .. } => right(&requests::record(6, &fields[..2])),
                         Request::Remove { .. } => {
                             fields.push(b"");
-                            right(&batches::record(5, &fields))
+                            right(&requests::record(5, &fields))
                         }
                     }
                 })
@@ -322,7 +323,7 @@ fn a_list_that_is_read_wrongly() {
             "records of other kinds are left out",
             |state, person, list| {
                 reading(state, person, list, |list| {
-                    let starts = lists::records(list);
+                    let starts = journals::records(list);
                     let records = starts.windows(2).map(|ends| &list[ends[0]..ends[1]]);
                     let ours = records.filter(|record| {
                         record
@@ -337,10 +338,10 @@ fn a_list_that_is_read_wrongly() {
         ),
         ("read where it is done", |state, person, list| {
             let empty = reference::batch(state, person, b"");
-            if empty.stopped.is_some() || list.len() > batches::BOUND {
+            if empty.stopped.is_some() || list.len() > requests::BOUND {
                 return reference::batch(state, person, list);
             }
-            let starts = lists::records(list);
+            let starts = journals::records(list);
             let mut done = 0;
             for ends in starts.windows(2) {
                 let record = &list[ends[0]..ends[1]];
@@ -420,7 +421,7 @@ fn a_batch_that_is_stopped_wrongly() {
         ("it tells all as done", |state, person, list| {
             let mut batch = reference::batch(state, person, list);
             if batch.done > 0 {
-                batch.done = lists::records(list).len() as u64 - 1;
+                batch.done = journals::records(list).len() as u64 - 1;
             }
             batch
         }),

@@ -1,10 +1,10 @@
 //! The comparison of choices and of names with an encoding (02's A3): what it must notice, it does.
 
-use compare::calls::{Ask, Asker};
+use compare::asker::Asker;
 use compare::edits;
 use compare::encodings::encoding;
 use compare::expand::{self, of_names};
-use compare::files::{self, Entry};
+use compare::files::{self, Ask, Entry};
 use compare::lent::{bytes, tell};
 use compare::lists;
 use compare::random::Random;

@@ -1,12 +1,13 @@
 //! The person of a record, asked in generated journals, seeded: the library, its bindings and the reference must agree. And
 //! what 02's A9 says of persons and kinds of records over a list of calls, tried on the library. See `compare::run` for replaying.
 
-use compare::calls::{Asker, Case};
+use compare::asker::Asker;
+use compare::case::Case;
 use compare::edits::{with_buffers, Kind};
 use compare::persons::{proved, Question};
 use compare::random::Random;
 use compare::run::{came_up, each, run, Outcomes};
-use compare::{files, lists};
+use compare::{files, journals, lists};
 use kveldrim::{Edits, Person};
 use reference::{RecordKind, State};
 
@@ -67,9 +68,9 @@ fn records_of_every_kind_and_length() {
 /// With a record left out, a question is still about the same one, or about the one after: so a failure can be made small.
 #[test]
 fn questions_with_a_record_less() {
-    let record = |person| lists::record(RecordKind::Four(person), 18, b"a", b"bc");
+    let record = |person| journals::record(RecordKind::Four(person), 18, b"a", b"bc");
     let records = [1, 2, 3].map(record).concat();
-    for standing in lists::records(&records) {
+    for standing in journals::records(&records) {
         let question = Question {
             journal: [&records[..], b"behind"].concat(),
             used: records.len() as u64,
@@ -183,7 +184,7 @@ fn the_person_told_is_the_one_given() {
 /// How many records fill a state's used journal bytes; all are of this kind.
 fn records_of_kind(kind: u16, state: &State) -> usize {
     let used = &state.journal[..state.used as usize];
-    let starts = lists::records(used);
+    let starts = journals::records(used);
     let (end, starts) = starts.split_last().unwrap();
     assert_eq!(*end, used.len());
     for start in starts {

@@ -4,7 +4,8 @@
 use std::path::{Path, PathBuf};
 use std::{env, fs};
 
-use compare::calls::{Asker, Case};
+use compare::asker::Asker;
+use compare::case::Case;
 use compare::random::Random;
 use compare::run::{came_up, have_encodings, run, Outcomes};
 use compare::{actions, expand, files, lists};
@@ -83,7 +84,7 @@ fn real_files_whole_and_spoilt() {
     ];
     let test = "real_files_whole_and_spoilt";
     let asker = of_files(&real_files(), test, 10, 2, outcomes, |file, random| {
-        files::asked(file, 4, random)
+        Case::File(files::asked(file, 4, random))
     });
     if let Some(asker) = asker {
         have_encodings(test, &asker, &[("choose", 1)]);

@@ -1,9 +1,10 @@
 //! Paper 02, A1, "Actions as a submenu": the list of actions, and the expansion of an action's own Exec.
 
+use crate::choice::find_chosen;
 use crate::exec::{expand_group, group_runs, read_items};
 use crate::file::{check, find_entry, find_group, read_groups, Group, DESKTOP_ENTRY};
 use crate::lines::is_plain_key;
-use crate::locale::{find_chosen, is_locale};
+use crate::locale::is_locale;
 use crate::records::write_records;
 use crate::refusal::Refusal;
 use crate::text::{split_list, unescape};

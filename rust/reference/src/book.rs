@@ -1,9 +1,10 @@
 //! Paper 01, "Edits and the journal", its last paragraph: the book of demand 3; paper 02, A9: the book of mixed journals; A10:
 //! the book after edits are forgotten. Of a batch (A4) it is fed "the single calls tried, the refused one too".
 
-use crate::edit::{edit, edit_within, Request};
+use crate::edit::{edit, edit_within};
 use crate::records::RecordKind;
 use crate::refusal::Refusal;
+use crate::requests::Request;
 
 /// "It keeps two lists of requests, standing and waiting, empty at first." Each is here with the kind of its record.
 #[derive(Debug, Clone)]

@@ -4,21 +4,8 @@ use crate::file::{find_asked, find_entry, find_group, read_groups, Entry};
 use crate::lines::{is_group, split_key};
 use crate::records::RecordKind;
 use crate::refusal::{Refusal, FILE_BOUND, RECORDS_BOUND};
+use crate::requests::Request;
 use crate::text::escape;
-
-/// "A set with group, key and text, a remove with group and key."
-#[derive(Debug, Clone, PartialEq, Eq)]
-pub enum Request {
-    Set {
-        group: Vec<u8>,
-        key: Vec<u8>,
-        text: Vec<u8>,
-    },
-    Remove {
-        group: Vec<u8>,
-        key: Vec<u8>,
-    },
-}
 
 /// "The old and new bytes are those replaced, inserted or removed", at a place in the file.
 #[derive(Debug, Clone, PartialEq, Eq)]

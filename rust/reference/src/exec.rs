@@ -1,7 +1,8 @@
 //! Paper 01, "Building a command": Exec is read into arguments, and these are expanded for one run.
 
+use crate::choice::choose;
 use crate::file::{check, lookup, DESKTOP_ENTRY};
-use crate::locale::{choose, is_locale};
+use crate::locale::is_locale;
 use crate::records::{read_records, write_records};
 use crate::refusal::{Refusal, LOCATION_BOUND};
 use crate::text::unescape;

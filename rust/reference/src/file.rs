@@ -1,6 +1,7 @@
 //! Paper 01, "Lines of a file" and "What the caller is told": well-formed and complete files, and lookup.
 
-use crate::lines::{is_group, read_line, split_key, split_lines, Line, Part};
+use crate::classes::Part;
+use crate::lines::{is_group, read_line, split_key, split_lines, Line};
 use crate::refusal::{Refusal, FILE_BOUND};
 
 /// The group that a file starts with.

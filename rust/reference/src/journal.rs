@@ -1,10 +1,11 @@
 //! Paper 01, "Edits and the journal": set, remove, undo and redo over the lent buffers. Paper 02, A4: many requests at once; A9:
 //! who made an edit; A10: forgetting the oldest edits.
 
-use crate::edit::{edit_within, replace, Request};
+use crate::edit::{edit_within, replace};
 use crate::file::check;
-use crate::records::{read_journal, read_requests, write_journal_record, Record, RecordKind};
+use crate::records::{read_journal, write_journal_record, Record, RecordKind};
 use crate::refusal::{Refusal, FILE_BOUND, RECORDS_BOUND};
+use crate::requests::{read_requests, Request};
 
 /// The two lent buffers, the file's length, and the journal's two numbers: bytes used and bytes standing.
 #[derive(Debug, Clone, PartialEq, Eq)]

@@ -5,6 +5,8 @@
 
 mod actions;
 mod book;
+mod choice;
+mod classes;
 mod edit;
 mod exec;
 mod file;
@@ -13,15 +15,16 @@ pub mod lines;
 mod locale;
 mod records;
 mod refusal;
+mod requests;
 pub mod text;
 
 pub use actions::{action_group, action_runs, actions, expand_action, listed};
 pub use book::Book;
-pub use edit::Request;
+pub use choice::{candidates, choose, strip_encoding};
 pub use exec::{expand, runs};
 pub use file::{check, complete, lookup};
 pub use journal::{batch, forget, person, redo, remove, set, undo, Batch, State};
-pub use locale::{candidates, choose, strip_encoding};
-pub use records::{read_requests, RecordKind};
+pub use records::RecordKind;
 pub use refusal::Refusal;
+pub use requests::{read_requests, Request};
 pub use text::{read_list, read_text, write_text};

@@ -1,10 +1,8 @@
 //! Paper 01, "Lines of a file": what a single line is, and the form of names and keys.
 
+use crate::classes::{is_group_byte, is_key_byte, skip, Part};
 use crate::locale::read_locale;
 use crate::text::value_fault;
-
-/// Two ends of a part, the end exclusive.
-pub type Part = (usize, usize);
 
 /// "Each line is one of blank, comment, header, entry or bad"; parts count from the line's start.
 #[derive(Debug, Clone, Copy, PartialEq, Eq)]
@@ -108,25 +106,6 @@ fn read_key(bytes: &[u8]) -> Result<(Part, Option<Part>, usize), usize> {
         return Err(locale.end);
     }
     Ok(((0, end), Some((end + 1, locale.end)), locale.end + 1))
-}
-
-/// The end of the bytes from `start` on that are of the class.
-pub fn skip(bytes: &[u8], start: usize, class: fn(u8) -> bool) -> usize {
-    let mut at = start;
-    while at < bytes.len() && class(bytes[at]) {
-        at += 1;
-    }
-    at
-}
-
-/// "A-Z a-z 0-9 `-`", in keys and in the parts of a locale.
-pub fn is_key_byte(byte: u8) -> bool {
-    byte.is_ascii_alphanumeric() || byte == b'-'
-}
-
-/// "0x20 to 0x7E without `[` and `]`", in group names.
-pub fn is_group_byte(byte: u8) -> bool {
-    (0x20..=0x7E).contains(&byte) && byte != b'[' && byte != b']'
 }
 
 /// 7: the form of a group argument.

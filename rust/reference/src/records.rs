@@ -1,7 +1,5 @@
-//! Paper 01, "Building a command" (records of kinds 2 and 3) and "Edits and the journal" (of kind 1); paper 02, A9 (of kind 4)
-//! and A4 (of kinds 5 and 6).
+//! Paper 01, "Building a command" (records of kinds 2 and 3) and "Edits and the journal" (of kind 1); paper 02, A9 (of kind 4).
 
-use crate::edit::Request;
 use crate::refusal::{Refusal, RECORDS_BOUND};
 
 /// Length and kind, before the bytes of a record.
@@ -49,7 +47,7 @@ fn read_2(bytes: &[u8], at: usize) -> Option<u16> {
 }
 
 /// A little-endian number of 4 bytes.
-fn read_4(bytes: &[u8], at: usize) -> Option<u32> {
+pub fn read_4(bytes: &[u8], at: usize) -> Option<u32> {
     let part = bytes.get(at..)?.first_chunk::<4>()?;
     Some(u32::from_le_bytes(*part))
 }
@@ -60,38 +58,9 @@ pub fn read_records(list: &[u8], kind: u16) -> Option<Vec<&[u8]>> {
     split_list(list)?.into_iter().map(of_kind).collect()
 }
 
-/// The requests of a list, "(5 set, 6 remove)"; none if it is damaged.
-pub fn read_requests(list: &[u8]) -> Option<Vec<Request>> {
-    let request = |(kind, bytes)| read_request(kind, bytes);
-    split_list(list)?.into_iter().map(request).collect()
-}
-
-/// "Then group, key with postfix and, for 5, the text, each after its own 4-byte length."
-fn read_request(kind: u16, mut rest: &[u8]) -> Option<Request> {
-    let mut fields = Vec::new();
-    while !rest.is_empty() {
-        let length = usize::try_from(read_4(rest, 0)?).ok()?;
-        let field = rest[4..].get(..length)?;
-        fields.push(field.to_vec());
-        rest = &rest[4 + length..];
-    }
-    match (kind, &fields[..]) {
-        (5, [group, key, text]) => Some(Request::Set {
-            group: group.clone(),
-            key: key.clone(),
-            text: text.clone(),
-        }),
-        (6, [group, key]) => Some(Request::Remove {
-            group: group.clone(),
-            key: key.clone(),
-        }),
-        _ => None,
-    }
-}
-
 /// The kind and the bytes of each record of a list. "A list over 65,536 bytes or not filled exactly by its records is damaged":
 /// then none.
-fn split_list(list: &[u8]) -> Option<Vec<(u16, &[u8])>> {
+pub fn split_list(list: &[u8]) -> Option<Vec<(u16, &[u8])>> {
     if list.len() as u64 > RECORDS_BOUND {
         return None;
     }
