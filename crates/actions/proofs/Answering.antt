@@ -15,7 +15,7 @@ use Rattle.line.specs.Form.{localeForm}
 use Rattle.rows.specs.Rows.{Row, readRows}
 use Rattle.wellformed.specs.Check.{check}
 use Rattle.exec.specs.Expand.{askedItems, groupArguments}
-use Rattle.exec.specs.Step.{itemsIn}
+use Rattle.run.specs.Step.{itemsIn}
 use Rattle.exec.proofs.Asking.{Granted}
 use Rattle.actions.specs.Actions.{actionsValue, identifiers, actionGroup, isAction, listedFrom, listed, labelled, actions, expandAction}
 use Rattle.actions.specs.Step.{elements}

@@ -12,6 +12,7 @@ use Rattle.base.specs.Choice.{pick}
 use Rattle.base.specs.Lists.{part}
 use Rattle.base.proofs.Scan.{done}
 use Rattle.base.proofs.Tests.{by-test}
+use Rattle.characters.specs.Bare.{bareLength}
 use Rattle.text.specs.Element.{rawElements}
 use Rattle.text.specs.Step.{elementLength}
 use Rattle.text.proofs.Elements.{split}
@@ -20,7 +21,7 @@ use Rattle.actions.specs.Step.{elements}
 -- what follows an element and its `;` does not change it
 closed : (s : List ℕ) (taken : Bool) → elementLength s taken < length s → (t : List ℕ)
     → rawElements (take (suc (elementLength s taken)) s ++ t) taken ≡ take (elementLength s taken) s ∷ rawElements t false
-unfolding rawElements elementLength
+unfolding rawElements bareLength
 closed [] taken h t = absurd (omega arith)
 closed (b ∷ bs) true h t = rw (closed bs false (omega arith) t)
 closed (b ∷ bs) false h t = go (eqb b 59) refl h (λ k. closed bs (eqb b 92) k t)

@@ -7,7 +7,7 @@ use mathlib.Core.Option.{none, some}
 use mathlib.Core.List.{List, []}
 use lib.ListN.{length, length-append}
 use lib.Dec.{eqb}
-use Rattle.base.specs.Lists.{ascii, same, part}
+use Rattle.base.specs.Lists.{ascii, part}
 use Rattle.base.proofs.Parts.{part-part}
 use Rattle.base.proofs.Lists.{length-part}
 use Rattle.base.proofs.Tests.{by-test, some-there, same-true}
@@ -18,7 +18,7 @@ use Rattle.line.specs.declared.Line.{Line}
 use Rattle.line.specs.declared.Line.the-variants.{Blank, Comment, Header, Entry, Bad}
 use Rattle.rows.specs.Rows.{Row, lineOf, groupAfter, readRows}
 use Rattle.rows.specs.Title.{Group, Key, title, titleOf, sameTitle, findRow, has}
-use Rattle.rows.specs.Find.{toldOf}
+use Rattle.rows.specs.Find.{foundOf}
 use Rattle.rows.specs.declared.Found.the-variants as found
 use Rattle.rows.proofs.Lines.{header-good, no-group}
 use Rattle.rows.proofs.Rows.{groupEnd}
@@ -85,7 +85,7 @@ row-titled file g r i b =
       there-is = rw i;
     }
 
-pub titled : (file g : List ℕ) {n p e v : ℕ} → toldOf (findRow (readRows file) (Group g)) ≡ found.Row n p e v → Titled file g p e
+pub titled : (file g : List ℕ) {n p e v : ℕ} → foundOf (findRow (readRows file) (Group g)) ≡ found.Row n p e v → Titled file g p e
 titled file g {n} {p} {e} {v} i =
     let a = told-row (findRow (readRows file) (Group g)) n p e v i in
     row-titled file g (a .0) (a .1) (a .2)

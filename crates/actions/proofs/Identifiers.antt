@@ -11,7 +11,7 @@ use Rattle.base.specs.Lists.{same, all}
 use Rattle.base.proofs.Tests.{no, by-test, and-both, class-other, same-true}
 use Rattle.fault.specs.declared.Fault.the-variants.{BadEscape}
 use Rattle.fault.specs.Answer.{Answer, given, refused, _>>=_, then}
-use Rattle.text.specs.Class.{keyByte}
+use Rattle.characters.specs.Class.{keyByte}
 use Rattle.text.specs.Escape.{textEscape, escape, textFrom}
 use Rattle.text.specs.Element.{eachRead}
 use Rattle.text.specs.declared.Escapes.the-variants as escapes

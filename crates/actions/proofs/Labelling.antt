@@ -26,13 +26,13 @@ use Rattle.text.specs.declared.Left.{Left}
 use Rattle.text.specs.declared.Left.the-variants as left
 use Rattle.text.proofs.Elements.{split}
 use Rattle.text.proofs.OutputLaws.{Leaves, leaves-refused, leaves-full, leaves-written}
-use Rattle.text.proofs.Room.{spend-zero, spend-add, spend-was, spend-lacks}
+use Rattle.text.proofs.RoomLaws.{spend-zero, spend-add, spend-was, spend-lacks}
 use Rattle.rows.specs.Rows.{Row, readRows, rawValue}
 use Rattle.choice.specs.Locale.{chosen}
 use Rattle.entry.specs.Choose.{chosenEnds}
 use Rattle.entry.proofs.Lookups.{chosen-stands}
 use Rattle.exec.specs.Expand.{nameIn}
-use Rattle.exec.proofs.Listing.{list-none, length-cons}
+use Rattle.run.proofs.Listing.{list-none, length-cons}
 use Rattle.actions.specs.Actions.{actionGroup, isAction, listedFrom, labelled}
 use Rattle.actions.specs.Step.{elements, isListedAt, listedAt, spendList}
 use Rattle.actions.proofs.Elements.{Parted, parted-start, parted-next, seen-next, elements-done}
@@ -219,26 +219,26 @@ module _ (rs : List Row) (raw locale : List ℕ) where
 
   -- ---- measuring: the room left and what those from the place on take are the whole answer
 
-  pub record Sparing (room i : ℕ) (rest : Left) : Type 0 where
+  pub record RoomLeft (room i : ℕ) (rest : Left) : Type 0 where
     pub parted : Parted raw i
     pub goes : then (spendList rest) (from i) ≡ then (spendList (left.Bytes room)) whole
 
-  pub spare-start : (room : ℕ) → Sparing room 0 (left.Bytes room)
-  spare-start room = record { parted = parted-start raw; goes = ap (λ (ids : List (List ℕ)). then (spendList (left.Bytes room)) (labelled rs locale ids)) (later-start rs raw) }
+  pub room-start : (room : ℕ) → RoomLeft room 0 (left.Bytes room)
+  room-start room = record { parted = parted-start raw; goes = ap (λ (ids : List (List ℕ)). then (spendList (left.Bytes room)) (labelled rs locale ids)) (later-start rs raw) }
 
-  module _ {room i : ℕ} {rest : Left} (s : Sparing room i rest) where
-    pub spare-end : length raw ≤ i → given rest ≡ then (spendList (left.Bytes room)) whole
-    spare-end h = sym (rw (later-end rs raw i h, labelled-none rs locale, list-none 2, spend-zero rest)) ∙ s .goes
+  module _ {room i : ℕ} {rest : Left} (s : RoomLeft room i rest) where
+    pub room-end : length raw ≤ i → given rest ≡ then (spendList (left.Bytes room)) whole
+    room-end h = sym (rw (later-end rs raw i h, labelled-none rs locale, list-none 2, spend-zero rest)) ∙ s .goes
 
     module _ {e : ℕ} (h : i < length raw) (q : e ≡ i + elementLength (drop i raw) false) where
       abbrev own : Answer (List (List ℕ))
       own = labelled rs locale (listedAt rs raw i e)
 
-      pub spare-wrong : {f : Fault} → refused f ≡ then (spendList rest) own → refused f ≡ then (spendList (left.Bytes room)) whole
-      spare-wrong w = sym (joint-wrong rest own (from (e + 1)) w) ∙ sym (ap (then (spendList rest)) (from-next (s .parted) h q)) ∙ s .goes
+      pub room-wrong : {f : Fault} → refused f ≡ then (spendList rest) own → refused f ≡ then (spendList (left.Bytes room)) whole
+      room-wrong w = sym (joint-wrong rest own (from (e + 1)) w) ∙ sym (ap (then (spendList rest)) (from-next (s .parted) h q)) ∙ s .goes
 
-      pub spare-next : {rest′ : Left} → given rest′ ≡ then (spendList rest) own → Sparing room (e + 1) rest′
-      spare-next w =
+      pub room-next : {rest′ : Left} → given rest′ ≡ then (spendList rest) own → RoomLeft room (e + 1) rest′
+      room-next w =
           record {
             parted = parted-next (s .parted) h q;
             goes = sym (joint-spent rest own (from (e + 1)) w) ∙ sym (ap (then (spendList rest)) (from-next (s .parted) h q)) ∙ s .goes;

@@ -8,7 +8,7 @@ use Rattle.base.specs.Lists.{ascii, same, any, all}
 use Rattle.base.proofs.Tests.{by-test, and-both, same-refl, same-true}
 use Rattle.base.proofs.Search.{any-middle}
 use Rattle.fault.specs.Answer.{given}
-use Rattle.text.specs.Class.{keyByte}
+use Rattle.characters.specs.Class.{keyByte}
 use Rattle.text.specs.Element.{elementsOf}
 use Rattle.line.specs.Form.{plainForm}
 use Rattle.rows.specs.Rows.{Row}

@@ -5,7 +5,7 @@ use fault::Fault;
 use text::Escapes;
 use text::Left;
 use text::Measure;
-use text::Spared;
+use text::Room;
 use text::Written;
 ghost use mathlib.Core.Path.{_≡_};
 ghost use mathlib.Core.Bool.{true};
@@ -17,8 +17,8 @@ ghost use Rattle.base.specs.Lists.{ascii};
 ghost use Rattle.base.specs.Over.{over, atFront};
 ghost use Rattle.fault.specs.Answer.{accepted, then};
 ghost use Rattle.record.specs.Record.{listOf};
-ghost use Rattle.text.specs.Output.{answered, told, held};
-ghost use Rattle.text.specs.Step.{spared, elementsIn};
+ghost use Rattle.text.specs.Output.{answered, writtenLength, held};
+ghost use Rattle.text.specs.Step.{roomOf, elementsIn};
 ghost use Rattle.line.specs.Form.{localeForm};
 ghost use Rattle.rows.specs.Rows.{readRows, rawValue};
 ghost use Rattle.rows.specs.Find.{noneBad};
@@ -38,38 +38,38 @@ fn label<'a, 'b, 'c>(file: &'a [u8], group: &'b [u8], locale: &'c [u8]) -> &'a [
 }
 
 // The room left after the records of an element, if it is listed, or where its label's escape is wrong. 12: the heads of both records.
-fn action_left(file: &[u8], raw: &[u8], i: usize, e: usize, locale: &[u8], left: Left) -> Spared
+fn action_left(file: &[u8], raw: &[u8], i: usize, e: usize, locale: &[u8], left: Left) -> Room
     requires { ⌜ (noneBad (now file) ≡ true) × (localeForm (now locale) ≡ true) × (i ≤ e) × (e ≤ length (now raw)) ⌝ }
-    ensures { λ r. ⌜ spared r ≡ then (spendList left) (labelled (readRows (now (file .entry))) (now (locale .entry)) (listedAt (readRows (now (file .entry))) (now (raw .entry)) i e)) ⌝ }
+    ensures { λ r. ⌜ roomOf r ≡ then (spendList left) (labelled (readRows (now (file .entry))) (now (locale .entry)) (listedAt (readRows (now (file .entry))) (now (raw .entry)) i e)) ⌝ }
 {
     let group = listed::group_at(file, raw, i, e);
     if group.len() == 0 {
-        return Spared::Is(left);
+        return Room::Left(left);
     }
     match text::escape::text_length(label(file, group, locale), Escapes::Text) {
-        Measure::Wrong(at) => Spared::Wrong(at),
-        Measure::Length(n) => Spared::Is(text::spend(text::spend(text::spend(left, 12), e - i), n)),
+        Measure::Wrong(at) => Room::Wrong(at),
+        Measure::Length(n) => Room::Left(text::spend(text::spend(text::spend(left, 12), e - i), n)),
     }
 }
 
 // The room that all records leave, or where the first wrong label's escape is.
-fn all_left(file: &[u8], raw: &[u8], locale: &[u8], room: usize) -> Spared
+fn all_left(file: &[u8], raw: &[u8], locale: &[u8], room: usize) -> Room
     requires { ⌜ (noneBad (now file) ≡ true) × (localeForm (now locale) ≡ true) ⌝ }
-    ensures { λ r. ⌜ spared r ≡ then (spendList (Left.Bytes room)) (labelled (readRows (now (file .entry))) (now (locale .entry)) (listedFrom (readRows (now (file .entry))) [] (elements (now (raw .entry))))) ⌝ }
+    ensures { λ r. ⌜ roomOf r ≡ then (spendList (Left.Bytes room)) (labelled (readRows (now (file .entry))) (now (locale .entry)) (listedFrom (readRows (now (file .entry))) [] (elements (now (raw .entry))))) ⌝ }
 {
     let mut left = Left::Bytes(room);
     let mut i: usize = 0;
     while i < raw.len() {
-        let e = text::list::element_end(raw, i);
+        let e = characters::classes::bare_end(raw, i, b';');
         match action_left(file, raw, i, e, locale, left) {
-            Spared::Wrong(at) => return Spared::Wrong(at),
-            Spared::Is(l) => {
+            Room::Wrong(at) => return Room::Wrong(at),
+            Room::Left(l) => {
                 left = l;
                 i = e + 1;
             }
         }
     }
-    Spared::Is(left)
+    Room::Left(left)
 }
 
 // The records of an element, if it is listed, through the part of an output that starts at a place; the answer is where they end.
@@ -107,7 +107,7 @@ fn put_all(file: &[u8], raw: &[u8], locale: &[u8], out: &mut [u8]) -> usize
     let mut i: usize = 0;
     let mut at: usize = 0;
     while i < raw.len() {
-        let e = text::list::element_end(raw, i);
+        let e = characters::classes::bare_end(raw, i, b';');
         at = put_action(file, raw, i, e, locale, out, at);
         i = e + 1;
     }
@@ -117,12 +117,12 @@ fn put_all(file: &[u8], raw: &[u8], locale: &[u8], out: &mut [u8]) -> usize
 // The records of the listed actions: the labels' 9 in list order, then 11.
 pub fn write_all(file: &[u8], raw: &[u8], locale: &[u8], out: &mut [u8]) -> Written
     requires { ⌜ (noneBad (now file) ≡ true) × (localeForm (now locale) ≡ true) ⌝ }
-    ensures answer { λ r. ⌜ answered r ≡ told (then (listOf 2) (labelled (readRows (now (file .entry))) (now (locale .entry)) (listedFrom (readRows (now (file .entry))) [] (elements (now (raw .entry)))))) (now (out .entry)) ⌝ }
+    ensures answer { λ r. ⌜ answered r ≡ writtenLength (then (listOf 2) (labelled (readRows (now (file .entry))) (now (locale .entry)) (listedFrom (readRows (now (file .entry))) [] (elements (now (raw .entry)))))) (now (out .entry)) ⌝ }
     ensures output { λ _. ⌜ now (out .exit) ≡ held (then (listOf 2) (labelled (readRows (now (file .entry))) (now (locale .entry)) (listedFrom (readRows (now (file .entry))) [] (elements (now (raw .entry)))))) (now (out .entry)) ⌝ }
 {
     match all_left(file, raw, locale, out.len()) {
-        Spared::Wrong(at) => Written::Refused(Fault::BadEscape { at }),
-        Spared::Is(left) => match left {
+        Room::Wrong(at) => Written::Refused(Fault::BadEscape { at }),
+        Room::Left(left) => match left {
             Left::Short => Written::Refused(Fault::NoRoom),
             Left::Bytes(_) => Written::Bytes(put_all(file, raw, locale, out)),
         },

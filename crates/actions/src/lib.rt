@@ -4,16 +4,16 @@ mod listed; // listed.rt: which actions are listed
 
 use exec::Counted;
 use fault::Fault;
-use text::Spared;
+use text::Room;
 use text::Written;
 use wellformed::Checked;
 ghost use mathlib.Core.Path.{_≡_};
-ghost use Rattle.text.specs.Output.{answered, told, held};
+ghost use Rattle.text.specs.Output.{answered, writtenLength, held};
 ghost use Rattle.actions.specs.Actions as spec;
 
 // The identifiers and labels of the listed actions as records of kind 2: 1 to 6, 7, Actions' 9, the labels' 9 in list order, 11.
 pub fn actions(file: &[u8], locale: &[u8], out: &mut [u8]) -> Written
-    ensures answer { λ r. ⌜ answered r ≡ told (spec.actions (now (file .entry)) (now (locale .entry))) (now (out .entry)) ⌝ }
+    ensures answer { λ r. ⌜ answered r ≡ writtenLength (spec.actions (now (file .entry)) (now (locale .entry))) (now (out .entry)) ⌝ }
     ensures output { λ _. ⌜ now (out .exit) ≡ held (spec.actions (now (file .entry)) (now (locale .entry))) (now (out .entry)) ⌝ }
 {
     match wellformed::check(file) {
@@ -22,9 +22,9 @@ pub fn actions(file: &[u8], locale: &[u8], out: &mut [u8]) -> Written
             if line::form::is_locale(locale) {
                 let raw = listed::value(file);
                 // No room is asked for: this tells whether the list's escapes are right.
-                return match text::list::spare(raw, 0) {
-                    Spared::Wrong(at) => Written::Refused(Fault::BadEscape { at }),
-                    Spared::Is(_) => labels::write_all(file, raw, locale, out),
+                return match text::list::room_after(raw, 0) {
+                    Room::Wrong(at) => Written::Refused(Fault::BadEscape { at }),
+                    Room::Left(_) => labels::write_all(file, raw, locale, out),
                 };
             }
             Written::Refused(Fault::BadArgument)
@@ -43,16 +43,16 @@ pub fn expand_action(
     run: usize,
     out: &mut [u8],
 ) -> Written
-    ensures answer { λ r. ⌜ answered r ≡ told (spec.expandAction (now (file .entry)) (now (action .entry)) (now (locale .entry)) (now (location .entry)) (now (list .entry)) run) (now (out .entry)) ⌝ }
+    ensures answer { λ r. ⌜ answered r ≡ writtenLength (spec.expandAction (now (file .entry)) (now (action .entry)) (now (locale .entry)) (now (location .entry)) (now (list .entry)) run) (now (out .entry)) ⌝ }
     ensures output { λ _. ⌜ now (out .exit) ≡ held (spec.expandAction (now (file .entry)) (now (action .entry)) (now (locale .entry)) (now (location .entry)) (now (list .entry)) run) (now (out .entry)) ⌝ }
 {
     match exec::ask(file, locale, location, list) {
         Counted::Refused(f) => Written::Refused(f),
         Counted::Items(count) => {
             let raw = listed::value(file);
-            match text::list::spare(raw, 0) {
-                Spared::Wrong(at) => Written::Refused(Fault::BadEscape { at }),
-                Spared::Is(_) => {
+            match text::list::room_after(raw, 0) {
+                Room::Wrong(at) => Written::Refused(Fault::BadEscape { at }),
+                Room::Left(_) => {
                     let group = listed::group_asked(file, raw, action);
                     if group.len() == 0 {
                         return Written::Refused(Fault::Missing);

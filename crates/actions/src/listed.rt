@@ -33,7 +33,7 @@ fn is_element(raw: &[u8], id: &[u8]) -> bool
 {
     let mut i: usize = 0;
     while i < raw.len() {
-        let e = text::list::element_end(raw, i);
+        let e = characters::classes::bare_end(raw, i, b';');
         if rows::same(id, &raw[i..e]) {
             return true;
         }

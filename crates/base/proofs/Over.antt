@@ -1,12 +1,12 @@
 -- What stands where in a buffer with x written over it. Assumes nothing.
-use mathlib.Core.Path.{_≡_, _∙_}
+use mathlib.Core.Path.{_≡_, refl, ap, _∙_}
 use mathlib.Core.List.{List, _++_, append-assoc}
 use Prim.Native.Nat.{ℕ, _+_, _≤_}
 use native.Mathlib.Nat.{add-assoc}
 use native.Mathlib.Omega.{arith}
 use lib.ListN.{length, take, drop, length-append, length-drop}
 use lib.Seq.{length-take-le, take-at, drop-at, take-length, drop-drop, take-append-le, take-take}
-use Rattle.base.specs.Over.{over, atFront}
+use Rattle.base.specs.Over.{over, atFront, WroteAt}
 use Rattle.base.proofs.Tail.{lent, back, tail-lent, tail-back}
 
 module _ (s : List ℕ) (at : ℕ) (x : List ℕ) (h : at + length x ≤ length s) where
@@ -54,3 +54,11 @@ over-before s at x y {n} e h =
     let m : at + length (x ++ y) ≡ n + length y = rw length-append (omega arith) in
     rw (take-append-le at (take n s) (y ++ drop (n + length y) s) (omega arith), take-take at n s (omega arith), ← e, drop-at (take n s) (y ++ drop (n + length y) s) n g, m)
     (simp append-assoc)
+
+-- x at the front of a tail that was lent
+pub write-lent : (s : List ℕ) (at : ℕ) (x : List ℕ) {n : ℕ} {y : List ℕ} → n ≡ length x → y ≡ atFront (lent at s) x → WroteAt s at x (at + n) (back at s y)
+write-lent s at x e f = record { ends = ap (λ (m : ℕ). at + m) e; is = over-tail s at x f }
+
+-- x copied to the front of a tail that was lent
+pub write-tail : (s x : List ℕ) (at : ℕ) {y : List ℕ} → y ≡ take (length x) x ++ drop (length x) (lent at s) → WroteAt s at x (at + length x) (back at s y)
+write-tail s x at e = write-lent s at x refl (copied (lent at s) x e)

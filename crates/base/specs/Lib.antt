@@ -1,3 +1,4 @@
+pub mod Bounds
 pub mod Choice
 pub mod Lists
 pub mod Over

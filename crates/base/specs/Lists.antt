@@ -1,7 +1,7 @@
 -- Texts as bytes, and a few questions about lists. Where both branches recur, each is bound by a `let`, so that only the one taken is
 -- computed. Assumes nothing.
-use Prim.Native.Nat.{ℕ, zero, suc, _-_}
-use Prim.Native.Char.{Char, code}
+use Prim.Native.Nat.{ℕ, suc, _-_}
+use Prim.Native.Char.{code}
 use Prim.Native.String.{String}
 use Prim.Native.String as text
 use mathlib.Core.Bool.{Bool, true, false, _&&_, _||_}

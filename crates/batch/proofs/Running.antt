@@ -18,9 +18,9 @@ use Rattle.record.proofs.Place.{Stands}
 use Rattle.record.proofs.Each.{each-done, each-damaged, each-step, at-none, at-record}
 use Rattle.requests.specs.Requests.{Asked, readRequest, readRequests}
 use Rattle.journal.specs.Journal.{Author, by, personOf, Journal}
-use Rattle.edit.specs.Calls.{State, opened, request}
-use Rattle.edit.specs.Step.{lent, passed}
-use Rattle.edit.specs.Step as edit
+use Rattle.edit.specs.Calls.{State, opened, request, lent}
+use Rattle.edit.specs.Step.{passed}
+use Rattle.edit.specs.Calls as edit
 use Rattle.edit.specs.declared.Edited.{Edited}
 use Rattle.edit.specs.declared.Edited.the-variants as edited
 use Rattle.edit.proofs.Applying.{was-opened, made-done, made-refused}

@@ -10,8 +10,7 @@ use Rattle.fault.specs.Answer.{Answer, given, refused, _>>=_, some-or}
 use Rattle.requests.specs.Requests.{Asked, readRequests}
 use Rattle.change.specs.Change.{Request, Set, Remove}
 use Rattle.journal.specs.Journal.{Author, by}
-use Rattle.edit.specs.Calls.{State, opened, request}
-use Rattle.edit.specs.Step.{lent}
+use Rattle.edit.specs.Calls.{State, opened, request, lent}
 use Rattle.batch.specs.declared.Batched.{Batched}
 use Rattle.batch.specs.declared.Batched.the-variants as batched
 
@@ -60,10 +59,10 @@ unfoldable pub batch : State → Author → List ℕ → Batch
 batch s author list = begun s author (listed s list)
 
 -- what an answer says, with what both buffers hold then
-abbrev pub answered : Batched → List ℕ → List ℕ → Batch
-answered (batched.All done size used standing) file journal = record { done = done; stopped = none; state = lent file size journal used standing }
-answered (batched.Stopped fault done size used standing) file journal = record { done = done; stopped = some fault; state = lent file size journal used standing }
+abbrev pub batchOf : Batched → List ℕ → List ℕ → Batch
+batchOf (batched.All done size used standing) file journal = record { done = done; stopped = none; state = lent file size journal used standing }
+batchOf (batched.Stopped fault done size used standing) file journal = record { done = done; stopped = some fault; state = lent file size journal used standing }
 
 -- a call that answers so and leaves these bytes in both buffers
 pub record Made (b : Batch) (r : Batched) (file journal : List ℕ) : Type 0 where
-  pub is : answered r file journal ≡ b
+  pub is : batchOf r file journal ≡ b

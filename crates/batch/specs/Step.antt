@@ -3,12 +3,9 @@ use mathlib.Core.Path.{_≡_}
 use Prim.Native.Nat.{ℕ}
 use mathlib.Core.Option.{some}
 use mathlib.Core.List.{List}
-use lib.ListN.{take}
 use Rattle.requests.specs.Requests.{Asked, readRequest}
-use Rattle.change.specs.Change.{editOf}
-use Rattle.journal.specs.Journal.{Author}
-use Rattle.edit.specs.Step.{lent, appliedBy}
-use Rattle.edit.specs.Step as edit
+use Rattle.journal.specs.Journal.{Author, by}
+use Rattle.edit.specs.Calls.{lent, requestOpened, Made}
 use Rattle.edit.specs.declared.Edited.{Edited}
 use Rattle.batch.specs.Batch.{requestOf}
 
@@ -16,4 +13,4 @@ use Rattle.batch.specs.Batch.{requestOf}
 abbrev pub MadeOf : (kind : ℕ) (body : List ℕ) (author : Author) (file : List ℕ) (size : ℕ) (journal : List ℕ) (standing : ℕ) (r : Edited) (file₁ journal₁ : List ℕ) → Type 0
 MadeOf kind body author file size journal standing r file₁ journal₁ =
     (a : Asked) → readRequest (record { kind = kind; body = body }) ≡ some a
-    → edit.Made (lent file size journal 0 standing) (appliedBy (lent file size journal 0 standing) author (editOf (take size file) (requestOf a))) r file₁ journal₁
+    → Made (lent file size journal 0 standing) (requestOpened (lent file size journal 0 standing) (by author (requestOf a))) r file₁ journal₁

@@ -1,4 +1,5 @@
 // Many set and remove requests in one call.
+use change::Operation;
 use edit::Edited;
 use fault::Fault;
 use record::Front;
@@ -10,8 +11,8 @@ ghost use Rattle.base.specs.Choice.{there};
 ghost use Rattle.fault.specs.Answer.{given};
 ghost use Rattle.requests.specs.Requests.{readRequests};
 ghost use Rattle.journal.specs.Journal.{Person};
-ghost use Rattle.edit.specs.Calls.{opened};
-ghost use Rattle.edit.specs.Step.{lent, passed, Ready};
+ghost use Rattle.edit.specs.Calls.{opened, lent};
+ghost use Rattle.edit.specs.Step.{passed, Ready};
 ghost use Rattle.batch.specs.Batch as spec;
 ghost use Rattle.batch.specs.Step.{MadeOf};
 
@@ -51,25 +52,28 @@ fn make(
         Fields::Damaged => Edited::Refused(Fault::Damaged),
         Fields::Two { group } => {
             let from = group + 4;
-            edit::make_remove(
+            edit::carry_out(
                 file,
                 size,
                 journal,
                 standing,
                 person,
+                Operation::Remove,
                 &body[4..group],
                 &body[from..end],
+                b"",
             )
         }
         Fields::Three { group, key } => {
             let from = group + 4;
             let text = key + 4;
-            edit::make_set(
+            edit::carry_out(
                 file,
                 size,
                 journal,
                 standing,
                 person,
+                Operation::Set,
                 &body[4..group],
                 &body[from..key],
                 &body[text..end],

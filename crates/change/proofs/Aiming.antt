@@ -15,11 +15,11 @@ use Rattle.base.specs.Choice.{there}
 use Rattle.base.proofs.Search.{there-first, any-none, there-last}
 use Rattle.base.proofs.Tests.{no, by-test, some-there, none-there}
 use Rattle.fault.specs.declared.Fault.the-variants.{NoPlainKey, Missing, PostfixesRemain}
-use Rattle.text.specs.Class.{keyByte}
+use Rattle.characters.specs.Class.{keyByte}
 use Rattle.line.specs.Form.{groupForm, keyForm}
 use Rattle.rows.specs.Rows.{Row, rows, lineOf, ended, readRows, rawValue}
 use Rattle.rows.specs.Title.{Title, Nameless, Group, Key, title, sameTitle, findRow, has}
-use Rattle.rows.specs.Find.{toldOf}
+use Rattle.rows.specs.Find.{foundOf}
 use Rattle.rows.specs.declared.Found.the-variants as found
 use Rattle.rows.proofs.Rows.{Found, RowBefore, full, open-end, rows-are, rows-after, line-clean, line-full, groupEnd}
 use Rattle.rows.proofs.Told.{Told, told-row, told-nothing, found-row, told-bounds, value-stands}
@@ -58,11 +58,11 @@ module _ (key : List ℕ) {n : ℕ} (q : n ≡ 0 + span keyByte (drop 0 key)) wh
   plain-itself e = plain-is ∙ eq-eqb n (length key) e
 
   module _ (file group : List ℕ) (e : n ≡ length key → ⊥) where
-    pub plain-there : {line start end value : ℕ} → found.Row line start end value ≡ toldOf (findRow (readRows file) (Key group (take n key))) → true ≡ plain file group key
+    pub plain-there : {line start end value : ℕ} → found.Row line start end value ≡ foundOf (findRow (readRows file) (Key group (take n key))) → true ≡ plain file group key
     unfolding plainOf
     plain-there f = rw (plain-is, ne-eqb n (length key) e, span-is) (sym (told-there (findRow (readRows file) (Key group (take n key))) f))
 
-    pub plain-missing : found.Nothing ≡ toldOf (findRow (readRows file) (Key group (take n key))) → false ≡ plain file group key
+    pub plain-missing : found.Nothing ≡ foundOf (findRow (readRows file) (Key group (take n key))) → false ≡ plain file group key
     unfolding plainOf
     plain-missing f = rw (plain-is, ne-eqb n (length key) e, span-is) (sym (told-missing (findRow (readRows file) (Key group (take n key))) f))
 
@@ -146,7 +146,7 @@ module _ (file group key : List ℕ) where
   set-no-group e = record { is = λ text. rw (slot-none ends e); inside = tt }
 
   -- the entry is there, and so is its group
-  module _ {n start end value : ℕ} (y : found.Row n start end value ≡ toldOf entry) where
+  module _ {n start end value : ℕ} (y : found.Row n start end value ≡ foundOf entry) where
     -- the group's last row
     group-there : (s : Row) × (ends ≡ some s)
     unfolding findRow
@@ -188,11 +188,11 @@ module _ (file group key : List ℕ) where
   abbrev RemoveBy : Target → Type 0
   RemoveBy t = Aims file key (λ _. removeEdit (readRows file) group key) t
 
-  pub remove-missing : found.Nothing ≡ toldOf (entry file group key) → RemoveBy (target.Refused Missing)
+  pub remove-missing : found.Nothing ≡ foundOf (entry file group key) → RemoveBy (target.Refused Missing)
   unfolding removeEdit
   remove-missing y = record { is = λ text. rw (told-nothing (entry file group key) (sym y)); inside = tt }
 
-  module _ {n start end value : ℕ} (y : found.Row n start end value ≡ toldOf (entry file group key)) where
+  module _ {n start end value : ℕ} (y : found.Row n start end value ≡ foundOf (entry file group key)) where
     pub remove-blocked : true ≡ postfixes → RemoveBy (target.Refused PostfixesRemain)
     unfolding removeEdit
     remove-blocked p = record { is = λ text. rw (told-row (entry file group key) n start end value (sym y) .1, ← p); inside = tt }

@@ -6,17 +6,17 @@ use native.Mathlib.Omega.{arith}
 use mathlib.Core.Bool.{Bool, true, false}
 use mathlib.Core.List.{List, [], _++_}
 use lib.ListN.{length, take, drop, length-append, take-append-drop}
-use Rattle.base.specs.Over.{atFront}
-use Rattle.base.proofs.Tail.{lent, back}
-use Rattle.base.proofs.Over.{copied, over-tail, over-then}
+use Rattle.base.specs.Over.{WroteAt}
+use Rattle.base.proofs.Over.{over-then}
 use Rattle.text.specs.Escape.{rawText}
-use Rattle.change.specs.Target.{entryBytes, newBytes, Written}
+use Rattle.change.specs.Change.{entryBytes}
+use Rattle.change.specs.Target.{newBytes}
 use Rattle.change.specs.declared.Target.the-variants.{Entry}
 
 -- ---- how many
 
 module _ (key text : List ℕ) where
-  pub entry-length : length (entryBytes key text) ≡ length key + 1 + length (rawText text)
+  pub entry-length : length (entryBytes key (rawText text)) ≡ length key + 1 + length (rawText text)
   entry-length = simp length-append
 
   pub new-entry-length : (at : ℕ) (after : Bool) → length (newBytes key text (Entry at after)) ≡ length key + length (rawText text) + 2
@@ -26,19 +26,11 @@ module _ (key text : List ℕ) where
 -- ---- written
 
 -- nothing
-pub write-none : (s : List ℕ) (at : ℕ) → Written s at [] at s
+pub write-none : (s : List ℕ) (at : ℕ) → WroteAt s at [] at s
 write-none s at = record { ends = omega arith; is = rw (add-zero at) (sym (take-append-drop at s)) }
 
--- x at the front of a tail that was lent
-pub write-lent : (s : List ℕ) (at : ℕ) (x : List ℕ) {n : ℕ} {y : List ℕ} → n ≡ length x → y ≡ atFront (lent at s) x → Written s at x (at + n) (back at s y)
-write-lent s at x e f = record { ends = ap (λ (m : ℕ). at + m) e; is = over-tail s at x f }
-
--- x copied to the front of a tail that was lent
-pub write-tail : (s x : List ℕ) (at : ℕ) {y : List ℕ} → y ≡ take (length x) x ++ drop (length x) (lent at s) → Written s at x (at + length x) (back at s y)
-write-tail s x at e = write-lent s at x refl (copied (lent at s) x e)
-
 -- y right behind x
-pub write-then : {s x t y u : List ℕ} {at n m : ℕ} → Written s at x n t → Written t n y m u → n ≤ length s → Written s at (x ++ y) m u
+pub write-then : {s x t y u : List ℕ} {at n m : ℕ} → WroteAt s at x n t → WroteAt t n y m u → n ≤ length s → WroteAt s at (x ++ y) m u
 write-then {s} {x} {t} {y} {u} {at} {n} {m} w v h =
     record {
       ends = v .ends ∙ rw (w .ends, length-append x y) (omega arith);

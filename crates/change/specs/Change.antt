@@ -6,7 +6,7 @@ use lib.ListN.{length}
 use Rattle.base.specs.Choice.{pick, maybe}
 use Rattle.base.specs.Lists.{ascii, same, any, last}
 use Rattle.fault.specs.declared.Fault.the-variants.{NoPlainKey, BadArgument, Missing, UnfitText, PostfixesRemain}
-use Rattle.fault.specs.Answer.{Answer, given, refused, _>>=_, need, some-or}
+use Rattle.fault.specs.Answer.{Answer, given, _>>=_, need, some-or}
 use Rattle.text.specs.Escape.{fitText, rawText}
 use Rattle.line.specs.Form.{groupForm, keyForm}
 use Rattle.rows.specs.Rows.{Row, ended, readRows, rawValue}
@@ -40,15 +40,17 @@ postfixOf group key (Key g k) = same group g && same key (plainOf k) && not (isP
 abbrev pub replacing : Row → List ℕ → Edit
 replacing r value = record { place = valueEnds r .from; old = rawValue r; new = value }
 
+-- an entry as it is inserted
+abbrev pub entryBytes : List ℕ → List ℕ → List ℕ
+entryBytes key value = key ++ ascii "=" ++ value
+
+-- an entry with its LF, after it or before it
+abbrev pub withLF : Bool → List ℕ → List ℕ
+withLF after entry = pick after (entry ++ ascii "\n") (ascii "\n" ++ entry)
+
 -- entry absent: `Key=value` and LF after the row's LF, or, where that isn't there, LF and `Key=value`
 unfoldable pub inserting : Row → List ℕ → List ℕ → Edit
-inserting r key value =
-    let entry : List ℕ = key ++ ascii "=" ++ value in
-    record {
-      place = r .start + length (r .bytes);
-      old = [];
-      new = pick (ended (r .bytes)) (entry ++ ascii "\n") (ascii "\n" ++ entry);
-    }
+inserting r key value = record { place = r .start + length (r .bytes); old = []; new = withLF (ended (r .bytes)) (entryBytes key value) }
 
 -- the row goes with its LF; a last row without LF goes with the LF before it
 unfoldable pub removing : Row → Edit

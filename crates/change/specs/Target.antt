@@ -3,35 +3,34 @@ use Prim.Native.Nat.{ℕ, _+_, _≤_}
 use mathlib.Core.Path.{_≡_}
 use mathlib.Core.Bool.{Bool, true, false, not, _&&_}
 use mathlib.Core.Option.{Option}
-use mathlib.Core.List.{List, [], _++_}
+use mathlib.Core.List.{List, []}
 use lib.ListN.{length, take}
 use lib.Dec.{eqb}
-use Rattle.base.specs.Choice.{pick, maybe}
-use Rattle.base.specs.Lists.{ascii, same, part}
-use Rattle.base.specs.Over.{over}
+use Rattle.base.specs.Choice.{maybe}
+use Rattle.base.specs.Lists.{same, part}
 use Rattle.fault.specs.Answer.{Answer, given, refused}
 use Rattle.text.specs.Escape.{rawText}
 use Rattle.line.specs.declared.Line.{Line}
 use Rattle.line.specs.declared.Line.the-variants as line
 use Rattle.rows.specs.Rows.{Row, ended}
 use Rattle.splice.specs.Edit.{Edit}
+use Rattle.change.specs.Change.{Request, Set, Remove, entryBytes, withLF}
+use Rattle.change.specs.declared.Operation.{Operation}
+use Rattle.change.specs.declared.Operation.the-variants as op
 use Rattle.change.specs.declared.Target.{Target}
 use Rattle.change.specs.declared.Target.the-variants.{Value, Entry, Line as Gone, Refused}
 use Rattle.change.specs.declared.Slot.{Slot}
 use Rattle.change.specs.declared.Slot.the-variants.{At, Nowhere}
 
--- an entry's bytes
-abbrev pub entryBytes : List ℕ → List ℕ → List ℕ
-entryBytes key text = key ++ ascii "=" ++ rawText text
-
--- an entry with its LF, after it or before it
-abbrev pub withLF : Bool → List ℕ → List ℕ
-withLF after entry = pick after (entry ++ ascii "\n") (ascii "\n" ++ entry)
+-- the request of an operation; a remove has no text
+abbrev pub requestBy : Operation → List ℕ → List ℕ → List ℕ → Request
+requestBy op.Set group key text = Set group key text
+requestBy op.Remove group key text = Remove group key
 
 -- the new bytes: a value, an entry or none
 abbrev pub newBytes : List ℕ → List ℕ → Target → List ℕ
 newBytes key text (Value from to) = rawText text
-newBytes key text (Entry at after) = withLF after (entryBytes key text)
+newBytes key text (Entry at after) = withLF after (entryBytes key (rawText text))
 newBytes key text (Gone from to) = []
 newBytes key text (Refused f) = []
 
@@ -78,8 +77,3 @@ postfixIn key l line.Comment = false
 postfixIn key l (line.Header end) = false
 postfixIn key l (line.Entry k name value) = same key (take k l) && not (eqb k name)
 postfixIn key l (line.Bad n) = false
-
--- a buffer s became t: x stands in it from a place up to n
-pub record Written (s : List ℕ) (at : ℕ) (x : List ℕ) (n : ℕ) (t : List ℕ) : Type 0 where
-  pub ends : n ≡ at + length x
-  pub is : t ≡ over s at x

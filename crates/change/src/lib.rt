@@ -1,16 +1,18 @@
 // What a set or a remove changes in a file, and the new bytes.
+use characters::Class;
+use characters::Content;
+use characters::Scan;
 use fault::Fault;
 use line::Line;
 use rows::Found;
-use text::Class;
-use text::Content;
-use text::Scan;
 ghost use mathlib.Core.Path.{_≡_};
 ghost use mathlib.Core.Bool.{true, false, _&&_, _||_};
 ghost use Prim.Native.Nat.{ℕ, _+_, _≤_, min};
 ghost use mathlib.Core.List.{List};
 ghost use lib.ListN.{length};
 ghost use lib.Dec.{ltb};
+ghost use Rattle.base.specs.Bounds.{fileMost};
+ghost use Rattle.base.specs.Over.{WroteAt};
 ghost use Rattle.base.specs.Choice.{pick, there};
 ghost use Rattle.base.specs.Lists.{same, any, last};
 ghost use Rattle.text.specs.Escape.{rawText};
@@ -23,6 +25,12 @@ ghost use Rattle.wellformed.specs.Check.{plainOf};
 ghost use Rattle.change.specs.Change as spec;
 ghost use Rattle.change.specs.Target as target;
 ghost use Rattle.change.specs.declared.Slot.the-variants as slot;
+
+// What is asked for: a key is set to a text, or removed.
+pub enum Operation {
+    Set,
+    Remove,
+}
 
 // What changes.
 pub enum Target {
@@ -162,7 +170,7 @@ fn has_plain(file: &[u8], group: &[u8], key: &[u8]) -> bool
     requires { ⌜ noneBad (now file) ≡ true ⌝ }
     ensures { λ r. ⌜ r ≡ (spec.isPlain (now (key .entry)) || title.has (readRows (now (file .entry))) (title.Key (now (group .entry)) (plainOf (now (key .entry))))) ⌝ }
 {
-    let n = text::classes::span_end(key, 0, Class::Key);
+    let n = characters::classes::span_end(key, 0, Class::Key);
     if n == key.len() {
         return true;
     }
@@ -243,48 +251,43 @@ fn find_remove(file: &[u8], group: &[u8], key: &[u8]) -> Target
     }
 }
 
-// What a set asks for in a file without bad lines: 7, 10, 8, 6.
-pub fn set_target(file: &[u8], group: &[u8], key: &[u8], text: &[u8]) -> Target
+// What a request asks for in a file without bad lines: 7, 10, 8, 6, 17. A remove looks at no text.
+pub fn find_target(file: &[u8], op: Operation, group: &[u8], key: &[u8], text: &[u8]) -> Target
     requires { ⌜ noneBad (now file) ≡ true ⌝ }
-    ensures { λ r. ⌜ target.Meets (now (file .entry)) (now (key .entry)) (now (text .entry)) (spec.editOf (now (file .entry)) (spec.Set (now (group .entry)) (now (key .entry)) (now (text .entry)))) r ⌝ }
+    ensures { λ r. ⌜ target.Meets (now (file .entry)) (now (key .entry)) (now (text .entry))
+        (spec.editOf (now (file .entry)) (target.requestBy op (now (group .entry)) (now (key .entry)) (now (text .entry)))) r ⌝ }
 {
-    if line::form::is_group(group) {
-        if line::form::is_key(key) {
-            return match text::utf8::scan(text, Content::Text) {
-                Scan::Fault(_) => Target::Refused(Fault::UnfitText),
-                Scan::Sound => find_set(file, group, key),
-            };
-        }
+    if !line::form::is_group(group) {
+        return Target::Refused(Fault::BadArgument);
     }
-    Target::Refused(Fault::BadArgument)
+    if !line::form::is_key(key) {
+        return Target::Refused(Fault::BadArgument);
+    }
+    match op {
+        Operation::Remove => find_remove(file, group, key),
+        Operation::Set => match characters::utf8::scan(text, Content::Text) {
+            Scan::Fault(_) => Target::Refused(Fault::UnfitText),
+            Scan::Sound => find_set(file, group, key),
+        },
+    }
 }
 
-// What a remove asks for in a file without bad lines: 7, 8, 17. Its new bytes are none, so any text will do.
-pub fn remove_target(file: &[u8], group: &[u8], key: &[u8], text: &[u8]) -> Target
-    requires { ⌜ noneBad (now file) ≡ true ⌝ }
-    ensures { λ r. ⌜ target.Meets (now (file .entry)) (now (key .entry)) (now (text .entry)) (spec.editOf (now (file .entry)) (spec.Remove (now (group .entry)) (now (key .entry)))) r ⌝ }
-{
-    if line::form::is_group(group) {
-        if line::form::is_key(key) {
-            return find_remove(file, group, key);
-        }
-    }
-    Target::Refused(Fault::BadArgument)
-}
+// One byte more than a file has: no new bytes as many fit one, and no sum of such lengths wraps.
+const MANY: usize = base::FILE_MOST + 1;
 
-// A length, or 32,769 for any longer.
+// A length, or MANY for any longer.
 fn capped(n: usize) -> usize
-    ensures { λ r. ⌜ r ≡ min n 32769 ⌝ }
+    ensures { λ r. ⌜ r ≡ min n (fileMost + 1) ⌝ }
 {
-    if n < 32769 {
+    if n < MANY {
         return n;
     }
-    32769
+    MANY
 }
 
-// How many bytes are new; 32,769 for more than a file has.
+// How many bytes are new; MANY for more than a file has.
 pub fn new_length(key: &[u8], text: &[u8], t: Target) -> usize
-    ensures { λ r. ⌜ r ≡ min (length (target.newBytes (now (key .entry)) (now (text .entry)) t)) 32769 ⌝ }
+    ensures { λ r. ⌜ r ≡ min (length (target.newBytes (now (key .entry)) (now (text .entry)) t)) (fileMost + 1) ⌝ }
 {
     match t {
         Target::Value { from: _, to: _ } => capped(text::escape::raw_length(text)),
@@ -296,19 +299,10 @@ pub fn new_length(key: &[u8], text: &[u8], t: Target) -> usize
     }
 }
 
-// Bytes through the part of an output that starts at a place; the answer is where they end.
-fn put(out: &mut [u8], at: usize, x: &[u8]) -> usize
-    requires { ⌜ at + length (now x) ≤ length (now out) ⌝ }
-    ensures { λ r. ⌜ target.Written (now (out .entry)) at (now (x .entry)) r (now (out .exit)) ⌝ }
-{
-    bytes::copy(x, &mut out[at..]);
-    at + x.len()
-}
-
-// The same of the raw value of a text.
+// The raw value of a text through the part of an output that starts at a place; the answer is where it ends.
 fn put_raw(out: &mut [u8], at: usize, text: &[u8]) -> usize
     requires { ⌜ at + length (rawText (now text)) ≤ length (now out) ⌝ }
-    ensures { λ r. ⌜ target.Written (now (out .entry)) at (rawText (now (text .entry))) r (now (out .exit)) ⌝ }
+    ensures { λ r. ⌜ WroteAt (now (out .entry)) at (rawText (now (text .entry))) r (now (out .exit)) ⌝ }
 {
     let n = text::escape::write_raw(text, &mut out[at..]);
     at + n
@@ -316,31 +310,31 @@ fn put_raw(out: &mut [u8], at: usize, text: &[u8]) -> usize
 
 // The same of an entry.
 fn put_entry(out: &mut [u8], at: usize, key: &[u8], text: &[u8]) -> usize
-    requires { ⌜ at + length (target.entryBytes (now key) (now text)) ≤ length (now out) ⌝ }
-    ensures { λ r. ⌜ target.Written (now (out .entry)) at (target.entryBytes (now (key .entry)) (now (text .entry))) r (now (out .exit)) ⌝ }
+    requires { ⌜ at + length (spec.entryBytes (now key) (rawText (now text))) ≤ length (now out) ⌝ }
+    ensures { λ r. ⌜ WroteAt (now (out .entry)) at (spec.entryBytes (now (key .entry)) (rawText (now (text .entry)))) r (now (out .exit)) ⌝ }
 {
-    let sign = put(out, at, key);
-    let from = put(out, sign, b"=");
+    let sign = splice::write(out, at, key);
+    let from = splice::write(out, sign, b"=");
     put_raw(out, from, text)
 }
 
 // The same of an entry with its LF, after it or before it.
 fn put_line(out: &mut [u8], at: usize, key: &[u8], text: &[u8], after: bool) -> usize
-    requires { ⌜ at + (length (target.entryBytes (now key) (now text)) + 1) ≤ length (now out) ⌝ }
-    ensures { λ r. ⌜ target.Written (now (out .entry)) at (target.withLF after (target.entryBytes (now (key .entry)) (now (text .entry)))) r (now (out .exit)) ⌝ }
+    requires { ⌜ at + (length (spec.entryBytes (now key) (rawText (now text))) + 1) ≤ length (now out) ⌝ }
+    ensures { λ r. ⌜ WroteAt (now (out .entry)) at (spec.withLF after (spec.entryBytes (now (key .entry)) (rawText (now (text .entry))))) r (now (out .exit)) ⌝ }
 {
     if after {
         let end = put_entry(out, at, key, text);
-        return put(out, end, b"\n");
+        return splice::write(out, end, b"\n");
     }
-    let from = put(out, at, b"\n");
+    let from = splice::write(out, at, b"\n");
     put_entry(out, from, key, text)
 }
 
 // The new bytes through the part of an output that starts at a place; the answer is where they end.
 pub fn put_new(out: &mut [u8], at: usize, key: &[u8], text: &[u8], t: Target) -> usize
     requires { ⌜ at + length (target.newBytes (now key) (now text) t) ≤ length (now out) ⌝ }
-    ensures { λ r. ⌜ target.Written (now (out .entry)) at (target.newBytes (now (key .entry)) (now (text .entry)) t) r (now (out .exit)) ⌝ }
+    ensures { λ r. ⌜ WroteAt (now (out .entry)) at (target.newBytes (now (key .entry)) (now (text .entry)) t) r (now (out .exit)) ⌝ }
 {
     match t {
         Target::Value { from: _, to: _ } => put_raw(out, at, text),

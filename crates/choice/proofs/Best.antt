@@ -15,7 +15,7 @@ use Rattle.line.specs.declared.Named.{Named}
 use Rattle.line.specs.declared.Named.the-variants.{Name, NoName}
 use Rattle.rows.specs.Rows.{Row, readRows, valueStart}
 use Rattle.rows.specs.Title.{Key, title, sameTitle}
-use Rattle.rows.specs.Find.{lineLength, noneBad, toldOf, insideAfter}
+use Rattle.rows.specs.Find.{lineLength, noneBad, foundOf, insideAfter}
 use Rattle.rows.specs.declared.Found.{Found}
 use Rattle.rows.specs.declared.Found.the-variants as found
 use Rattle.rows.proofs.Step.{rowAt, groupNext, title-at}
@@ -59,11 +59,11 @@ place-title group h r line (NoName n) ks i = none ks ∙ by (same group h)
 
 -- what is told at the end: a better row of those that are left, else the best so far
 abbrev pub bestOf : List ℕ → List (List ℕ) → ℕ → Found → List Row → Found
-bestOf group ks best kept rs = maybe (firstKey rs group (take best ks)) kept (λ r. toldOf (some r))
+bestOf group ks best kept rs = maybe (firstKey rs group (take best ks)) kept (λ r. foundOf (some r))
 
 -- the rows from p on, and the best row before them, have the answer
 pub record Best (s group : List ℕ) (ks : List (List ℕ)) (p n : ℕ) (inside : Bool) (best : ℕ) (kept : Found) : Type 0 where
-  pub walk : SeekIn s group (bestOf group ks best kept) (toldOf (firstKey (readRows s) group ks)) p n inside
+  pub walk : SeekIn s group (bestOf group ks best kept) (foundOf (firstKey (readRows s) group ks)) p n inside
   pub most : best ≤ length ks
 
 pub best-start : (s group key locale : List ℕ) → noneBad s ≡ true → Best s group (allKeys key locale) 0 1 (eqb (length group) 0) 5 found.Nothing
@@ -71,12 +71,12 @@ best-start s group key locale h = record { walk = in-start s group (bestOf group
 
 -- no row is left
 pub best-end : (s group : List ℕ) (ks : List (List ℕ)) {p n : ℕ} {inside : Bool} {best : ℕ} {kept : Found} → Best s group ks p n inside best kept → length s ≤ p
-    → kept ≡ toldOf (firstKey (readRows s) group ks)
+    → kept ≡ foundOf (firstKey (readRows s) group ks)
 best-end s group ks {best = best} w h = rw (first-nowhere group (take best ks)) at (seek-end (w .walk .seek) h)
 
 -- no row can be better
 pub best-found : (s group : List ℕ) (ks : List (List ℕ)) {p n : ℕ} {inside : Bool} {best : ℕ} {kept : Found} → Best s group ks p n inside best kept → best ≡ 0
-    → kept ≡ toldOf (firstKey (readRows s) group ks)
+    → kept ≡ foundOf (firstKey (readRows s) group ks)
 unfolding firstKey
 best-found s group ks w e = rw e at (w .walk .seek .goes)
 
@@ -120,7 +120,7 @@ module _ (s group : List ℕ) (ks : List (List ℕ)) {p n : ℕ} {inside : Bool}
         → Best s group ks (e + 1) (n + 1) t r (found.Row n p e (p + v))
     best-better j {r} u k {v} x =
         let z : placeOf group row ks ≡ r = place-row ∙ rw (sym i ∙ j, u) in
-        let o : toldOf (some row) ≡ found.Row n p e (p + v) = seek-told (w .walk .seek) h q ∙ rw x in
+        let o : foundOf (some row) ≡ found.Row n p e (p + v) = seek-told (w .walk .seek) h q ∙ rw x in
         rw i (record {
           walk =
               in-next (w .walk) h q (bestOf group ks r (found.Row n p e (p + v)))
@@ -128,6 +128,6 @@ module _ (s group : List ℕ) (ks : List (List ℕ)) {p n : ℕ} {inside : Bool}
           most = omega (arith, w .most);
         })
       where
-        told : (o : Option Row) → maybe (maybe o (some row) some) kept (λ x. toldOf (some x)) ≡ maybe o (toldOf (some row)) (λ x. toldOf (some x))
+        told : (o : Option Row) → maybe (maybe o (some row) some) kept (λ x. foundOf (some x)) ≡ maybe o (foundOf (some row)) (λ x. foundOf (some x))
         told none = refl
         told (some x) = refl

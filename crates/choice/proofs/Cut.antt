@@ -9,8 +9,8 @@ use borrow.Author.Tests.{eqb-true}
 use Rattle.base.specs.Choice.{pick}
 use Rattle.base.specs.Lists.{same, span, all}
 use Rattle.base.proofs.Tests.{and-both, class-other, eqb-sym}
-use Rattle.text.specs.Class.{keyByte}
-use Rattle.line.specs.Locale.{marked}
+use Rattle.characters.specs.Class.{keyByte}
+use Rattle.line.specs.Locale.{partLength}
 
 -- ---- a key's bytes
 
@@ -55,8 +55,8 @@ abbrev pub Part : ℕ → List ℕ → Type 0
 Part mark [] = Unit
 Part mark (b ∷ s) = (b ≡ mark) × (all keyByte s ≡ true)
 
-pub part-is : (mark : ℕ) (s : List ℕ) → Part mark (take (marked mark s) s)
-unfolding marked
+pub part-is : (mark : ℕ) (s : List ℕ) → Part mark (take (partLength mark s) s)
+unfolding partLength
 part-is mark [] = tt
 part-is mark (b ∷ s) = go (eqb b mark) refl
   where

@@ -6,14 +6,14 @@ use mathlib.Core.Bool.{true, false, and-false}
 use mathlib.Core.List.{List, [], _∷_, _++_, append-assoc, append-nil}
 use lib.Seq.{length-take-le}
 use lib.ListN.{length, take, drop, length-append, length-drop}
-use Rattle.base.specs.Lists.{ascii, same, part, all, any}
+use Rattle.base.specs.Lists.{ascii, same, all, any}
 use Rattle.base.proofs.Scan.{done}
-use Rattle.text.specs.Class.{keyByte}
+use Rattle.characters.specs.Class.{keyByte}
 use Rattle.line.specs.Locale.{parts}
 use Rattle.line.specs.Form.{localeForm}
 use Rattle.line.specs.declared.Parts.{Parts}
 use Rattle.choice.specs.Locale.{langOf, countryOf, modifierOf, stripped, plainLocales, plainLocale}
-use Rattle.choice.proofs.Cut.{Stops, cut-same, Part, stops-part, Parted}
+use Rattle.choice.proofs.Cut.{Stops, cut-same, stops-part, Parted}
 use Rattle.choice.proofs.Postfixes.{form-ends, form-parted}
 
 -- a language alone

@@ -10,12 +10,12 @@ use lib.ListN.{length, take, drop, length-drop, take-append-drop}
 use lib.Dec.{eqb, ltb}
 use borrow.Author.Tests.{eqb-true}
 use Rattle.base.specs.Choice.{pick, maybe}
-use Rattle.base.specs.Lists.{same, part, span, all}
+use Rattle.base.specs.Lists.{same, part, span}
 use Rattle.base.proofs.Scan.{here, done}
 use Rattle.base.proofs.Tail.{lent, tail-lent}
 use Rattle.base.proofs.Tests.{same-sym}
-use Rattle.text.specs.Class.{keyByte}
-use Rattle.line.specs.Locale.{marked, parts, localeEnd, emptyPart, isLocale}
+use Rattle.characters.specs.Class.{keyByte}
+use Rattle.line.specs.Locale.{partLength, parts, localeEnd, emptyPart, isLocale}
 use Rattle.line.specs.Form.{localeForm}
 use Rattle.line.specs.declared.Parts.{Parts}
 use Rattle.line.proofs.Locales.{parts-within}
@@ -24,7 +24,6 @@ use Rattle.choice.specs.Locale.{langOf, countryOf, modifierOf, stripped}
 use Rattle.choice.specs.Locale as spec
 use Rattle.choice.specs.Step.{allKeys, rankIn, rankPart, Closed}
 use Rattle.choice.proofs.Cut.{front-keys, Part, part-is, Parted, bracket, parted-same}
-use Rattle.choice.proofs.Stripped.{behind}
 
 -- ---- the parts of a locale
 
@@ -36,7 +35,7 @@ parted : (s : List ℕ) → Parted (langOf s) (countryOf s) (modifierIn s)
 unfolding parts
 parted s =
     let l : ℕ = span keyByte s in
-    let c : ℕ = marked 95 (drop l s) in
+    let c : ℕ = partLength 95 (drop l s) in
     let z : l + c - l ≡ c = omega arith in
     record { lang = front-keys s; country = rw z (part-is 95 (drop l s)); modifier = part-is 64 _ }
 

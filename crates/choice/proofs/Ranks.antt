@@ -3,20 +3,19 @@ use mathlib.Core.Path.{_≡_, refl, sym, ap, _∙_}
 use Prim.Native.Nat.{ℕ, zero, suc, _+_, _-_, _≤_, _<_}
 use native.Mathlib.Omega.{arith}
 use mathlib.Core.Bool.{Bool, true, false, _&&_, and-false}
-use mathlib.Core.Option.{some}
 use mathlib.Core.List.{List, [], _∷_, _++_, append-assoc, append-nil, map}
 use lib.Seq.{take-take, length-take-le, getD-take, getD-drop}
-use lib.ListN.{length, take, drop, length-take, length-drop}
+use lib.ListN.{length, take, drop, length-drop}
 use lib.Dec.{eqb}
 use borrow.Author.Tests.{eqb-true, eqb-false}
 use Rattle.base.specs.Choice.{pick}
-use Rattle.base.specs.Lists.{same, part, span, all, any}
+use Rattle.base.specs.Lists.{same, part, span, all}
 use Rattle.base.proofs.Scan.{here}
 use Rattle.base.proofs.Parts.{drop-take}
 use Rattle.base.proofs.Span.{span-take}
-use Rattle.base.proofs.Tests.{no, by-test, same-true}
-use Rattle.text.specs.Class.{keyByte}
-use Rattle.line.specs.Locale.{marked, parts, localeEnd}
+use Rattle.base.proofs.Tests.{by-test, same-true}
+use Rattle.characters.specs.Class.{keyByte}
+use Rattle.line.specs.Locale.{partLength, parts, localeEnd}
 use Rattle.line.specs.Name.{byteAt, readName}
 use Rattle.line.specs.declared.Named.{Named}
 use Rattle.line.specs.declared.Named.the-variants.{Name, NoName}
@@ -31,8 +30,8 @@ use Rattle.choice.proofs.Stripped.{behind, behind-stops, stripped-cut}
 -- ---- a name with a postfix
 
 -- what is read of a part, or of a locale, is the same of any front that holds it
-marked-take : (mark n : ℕ) (s : List ℕ) → marked mark s ≤ n → marked mark (take n s) ≡ marked mark s
-unfolding marked
+marked-take : (mark n : ℕ) (s : List ℕ) → partLength mark s ≤ n → partLength mark (take n s) ≡ partLength mark s
+unfolding partLength
 marked-take mark zero [] h = refl
 marked-take mark (suc n) [] h = refl
 marked-take mark zero (b ∷ s) h = go (eqb b mark) h
@@ -50,8 +49,8 @@ parts-take : (n : ℕ) (s : List ℕ) → localeEnd (parts s) ≤ n → parts (t
 unfolding parts
 parts-take n s h =
     let l : ℕ = span keyByte s in
-    let c : ℕ = marked 95 (drop l s) in
-    let e : ℕ = marked 46 (drop (l + c) s) in
+    let c : ℕ = partLength 95 (drop l s) in
+    let e : ℕ = partLength 46 (drop (l + c) s) in
     rw (
       span-take keyByte n s (omega arith),
       drop-take l n s,

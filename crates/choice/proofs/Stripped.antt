@@ -9,8 +9,8 @@ use lib.Seq.{take-at, take-add}
 use lib.ListN.{length, take, drop, take-append-drop}
 use Rattle.base.specs.Lists.{same, span, all, first}
 use Rattle.base.proofs.Tests.{and-both}
-use Rattle.text.specs.Class.{keyByte}
-use Rattle.line.specs.Locale.{marked, parts}
+use Rattle.characters.specs.Class.{keyByte}
+use Rattle.line.specs.Locale.{partLength, parts}
 use Rattle.rows.specs.Rows.{Row}
 use Rattle.rows.specs.Title.{Title, Nameless, Group, Key, title, sameTitle, findRow}
 use Rattle.choice.specs.Locale.{stripped, strippedKey, strippedTitle, findStripped}
@@ -32,7 +32,7 @@ unfolding strippedKey
 stripped-cut k = rw (add-one (span keyByte k)) (at (span keyByte k) k)
   where
     none : stripped [] ≡ []
-    none = unfold stripped parts marked span in refl
+    none = unfold stripped parts partLength span in refl
 
     at : (n : ℕ) (k : List ℕ) → take (suc n) k ++ stripped (drop (suc n) k) ≡ take n k ++ behind (drop n k)
     at zero [] = none

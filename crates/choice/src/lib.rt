@@ -8,12 +8,12 @@ ghost use mathlib.Core.Bool.{true};
 ghost use mathlib.Core.List.{[], _∷_};
 ghost use lib.ListN.{length, take};
 ghost use Rattle.base.specs.Lists as lists;
-ghost use Rattle.text.specs.Class.{keyByte};
+ghost use Rattle.characters.specs.Class.{keyByte};
 ghost use Rattle.line.specs.Form.{plainForm, localeForm};
 ghost use Rattle.line.specs.Locale.{parts};
 ghost use Rattle.line.specs.Name.{readName};
 ghost use Rattle.rows.specs.Rows.{readRows};
-ghost use Rattle.rows.specs.Find.{noneBad, toldOf};
+ghost use Rattle.rows.specs.Find.{noneBad, foundOf};
 ghost use Rattle.choice.specs.Locale as spec;
 ghost use Rattle.choice.specs.Step as step;
 
@@ -105,7 +105,7 @@ fn rank(l: &[u8], key: &[u8], locale: &[u8], p: Parts) -> usize
 // The first row of the best rank, in a file without bad lines. A row behind it counts only where it is better.
 fn find_best(file: &[u8], group: &[u8], key: &[u8], locale: &[u8], p: Parts) -> Found
     requires { ⌜ (noneBad (now file) ≡ true) × (lists.all keyByte (now key) ≡ true) × (localeForm (now locale) ≡ true) × (p ≡ parts (now locale)) ⌝ }
-    ensures { λ r. ⌜ r ≡ toldOf (spec.firstKey (readRows (now (file .entry))) (now (group .entry)) (step.allKeys (now (key .entry)) (now (locale .entry)))) ⌝ }
+    ensures { λ r. ⌜ r ≡ foundOf (spec.firstKey (readRows (now (file .entry))) (now (group .entry)) (step.allKeys (now (key .entry)) (now (locale .entry)))) ⌝ }
 {
     let mut at: usize = 0;
     let mut n: usize = 1;
@@ -142,7 +142,7 @@ fn find_best(file: &[u8], group: &[u8], key: &[u8], locale: &[u8], p: Parts) -> 
 // The row of the first present candidate, last the plain key, in a file without bad lines.
 pub fn choose_row(file: &[u8], group: &[u8], key: &[u8], locale: &[u8]) -> Found
     requires { ⌜ (noneBad (now file) ≡ true) × (plainForm (now key) ≡ true) × (localeForm (now locale) ≡ true) ⌝ }
-    ensures { λ r. ⌜ r ≡ toldOf (spec.chosen (readRows (now (file .entry))) (now (group .entry)) (now (key .entry)) (now (locale .entry))) ⌝ }
+    ensures { λ r. ⌜ r ≡ foundOf (spec.chosen (readRows (now (file .entry))) (now (group .entry)) (now (key .entry)) (now (locale .entry))) ⌝ }
 {
     let p = line::read_parts(locale);
     if is_plain(locale, p) {

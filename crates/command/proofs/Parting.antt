@@ -13,8 +13,9 @@ use Rattle.base.specs.Choice.{pick}
 use Rattle.base.specs.Lists.{span, part}
 use Rattle.base.proofs.Scan.{here, done}
 use Rattle.base.proofs.Span.{span-from}
+use Rattle.characters.specs.Bare.{bareLength}
 use Rattle.line.specs.Name.{byteAt}
-use Rattle.command.specs.Words.{Word, quoteLength, insideLength, opens, notSpace, quotedLength, wordLength, wordsAfter}
+use Rattle.command.specs.Words.{Word, insideLength, opens, notSpace, quotedLength, wordLength, wordsAfter}
 
 -- the first byte from a place on, and the second
 pub first-byte : (s : List ℕ) (i : ℕ) → byteAt (drop i s) 0 ≡ getD s i 0
@@ -23,12 +24,12 @@ first-byte s i = rw (getD-drop, add-zero)
 -- ---- where a word ends
 
 module _ (s : List ℕ) (from : ℕ) where
-  pub word-quoted : {c e : ℕ} → getD s from 0 ≡ 34 → c ≡ from + 1 + quoteLength (drop (from + 1) s) false → e ≡ c + span notSpace (drop c s)
+  pub word-quoted : {c e : ℕ} → getD s from 0 ≡ 34 → c ≡ from + 1 + bareLength 34 (drop (from + 1) s) false → e ≡ c + span notSpace (drop c s)
       → e ≡ from + wordLength (drop from s)
   unfolding wordLength
   word-quoted {c} {e} b p q =
       let o : opens (drop from s) ≡ true = rw (first-byte s from) (eq-eqb _ _ b) in
-      let n : insideLength (drop from s) ≡ quoteLength (drop (from + 1) s) false = rw (drop-drop 1 from s) in
+      let n : insideLength (drop from s) ≡ bareLength 34 (drop (from + 1) s) false = rw (drop-drop 1 from s) in
       let k : from + (1 + insideLength (drop from s)) ≡ c = omega arith in
       rw (o, drop-drop (1 + insideLength (drop from s)) from s, k) (omega (arith, q))
 
@@ -38,13 +39,13 @@ module _ (s : List ℕ) (from : ℕ) where
       let o : opens (drop from s) ≡ false = rw (first-byte s from) (ne-eqb _ _ n) in
       rw o (omega (arith, q))
 
-quote-le : (s : List ℕ) (t : Bool) → quoteLength s t ≤ length s
-unfolding quoteLength
+quote-le : (s : List ℕ) (t : Bool) → bareLength 34 s t ≤ length s
+unfolding bareLength
 quote-le [] t = omega arith
 quote-le (b ∷ s) true = let h = quote-le s false in omega arith
 quote-le (b ∷ s) false = go (eqb b 34) (quote-le s (eqb b 92))
   where
-    go : (t : Bool) → quoteLength s (eqb b 92) ≤ length s → pick t 0 (suc (quoteLength s (eqb b 92))) ≤ suc (length s)
+    go : (t : Bool) → bareLength 34 s (eqb b 92) ≤ length s → pick t 0 (suc (bareLength 34 s (eqb b 92))) ≤ suc (length s)
     go true h = omega arith
     go false h = omega arith
 

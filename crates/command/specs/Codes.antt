@@ -6,7 +6,7 @@ use mathlib.Core.List.{List}
 use lib.Dec.{eqb, leb}
 use Rattle.base.specs.Choice.{pick}
 use Rattle.base.specs.Lists.{ascii, any}
-use Rattle.text.specs.Class.{spaceByte}
+use Rattle.characters.specs.Class.{spaceByte}
 use Rattle.command.specs.declared.Piece.{Piece}
 use Rattle.command.specs.declared.Piece.the-variants as piece
 

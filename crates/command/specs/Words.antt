@@ -7,19 +7,12 @@ use lib.ListN.{take, drop}
 use lib.Dec.{eqb}
 use Rattle.base.specs.Choice.{pick}
 use Rattle.base.specs.Lists.{span}
+use Rattle.characters.specs.Bare.{bareLength}
 use Rattle.line.specs.Name.{byteAt}
 
--- How many bytes stand before the next bare quote, or before the end where there is none. The flag: a backslash took the first byte.
-unfoldable pub quoteLength : List ℕ → Bool → ℕ
-quoteLength [] taken = 0
-quoteLength (b ∷ bs) true = suc (quoteLength bs false)
-quoteLength (b ∷ bs) false =
-    let more : ℕ = suc (quoteLength bs (eqb b (code "\\"))) in
-    pick (eqb b (code "\"")) 0 more
-
--- the same behind an opening quote: how many bytes stand in the quotes
+-- how many bytes stand behind an opening quote before the next bare one, or before the end
 abbrev pub insideLength : List ℕ → ℕ
-insideLength s = quoteLength (drop 1 s) false
+insideLength s = bareLength (code "\"") (drop 1 s) false
 
 -- a quote stands at the front
 abbrev pub opens : List ℕ → Bool

@@ -7,6 +7,7 @@ ghost use mathlib.Core.Path.{_≡_};
 ghost use mathlib.Core.Bool.{true, false};
 ghost use Prim.Native.Nat.{_+_, _≤_, _<_};
 ghost use lib.ListN.{length, getD};
+ghost use Rattle.base.specs.Bounds.{fileMost};
 ghost use Rattle.fault.specs.Answer.{then};
 ghost use Rattle.command.specs.Command as command;
 ghost use Rattle.command.specs.Step as step;
@@ -88,7 +89,7 @@ pub fn piece_at(s: &[u8], i: usize, quoted: bool) -> Piece
 
 // Where the next one begins.
 pub fn next_at(s: &[u8], i: usize, quoted: bool) -> usize
-    requires { ⌜ (i < length (now s)) × (length (now s) ≤ 32768) ⌝ }
+    requires { ⌜ (i < length (now s)) × (length (now s) ≤ fileMost) ⌝ }
     ensures { λ r. ⌜ r ≡ i + command.widthOf quoted (getD (now (s .entry)) i 0) ⌝ }
 {
     i + codes::width_of(quoted, s[i])
@@ -119,7 +120,7 @@ fn see(seen: Seen, p: Piece) -> Seen
 
 // The pieces of bytes that stand at a place: which codes stand with them, or their first fault.
 fn check_pieces(s: &[u8], at: usize, quoted: bool, program: bool, seen: Seen) -> Checked
-    requires { ⌜ at + length (now s) ≤ 32768 ⌝ }
+    requires { ⌜ at + length (now s) ≤ fileMost ⌝ }
     ensures { λ r. ⌜ step.checkedAs r ≡ step.unlessFault (command.piecesFault quoted program (seen .taken) (now (s .entry)) 0 at)
         (step.seePieces seen (command.piecesOf quoted (now (s .entry)))) ⌝ }
 {
@@ -142,7 +143,7 @@ fn check_pieces(s: &[u8], at: usize, quoted: bool, program: bool, seen: Seen) ->
 
 // Whether a word of so many bytes, of them so many in quotes, is not closed or an empty program.
 fn is_unfit(program: bool, size: usize, n: usize) -> bool
-    requires { ⌜ n ≤ 32768 ⌝ }
+    requires { ⌜ n ≤ fileMost ⌝ }
     ensures { λ r. ⌜ r ≡ command.unfit program size n ⌝ }
 {
     if size <= n + 1 {
@@ -156,11 +157,11 @@ fn is_unfit(program: bool, size: usize, n: usize) -> bool
 
 // A quoted word.
 fn check_quoted(word: &[u8], start: usize, program: bool, seen: Seen) -> Checked
-    requires { ⌜ (start + length (now word) ≤ 32768) × (0 < length (now word)) ⌝ }
+    requires { ⌜ (start + length (now word) ≤ fileMost) × (0 < length (now word)) ⌝ }
     ensures { λ r. ⌜ step.checkedAs r ≡ step.unlessFault (command.quotedFault program (seen .taken) (record { start = start; bytes = now (word .entry) }))
         (step.seePieces seen (command.piecesOf true (command.inside (now (word .entry))))) ⌝ }
 {
-    let closing = words::quote_end(word, 1);
+    let closing = characters::classes::bare_end(word, 1, b'"');
     let n = closing - 1;
     if is_unfit(program, word.len(), n) {
         return Checked::Refused(Fault::BadExec { at: start });
@@ -178,7 +179,7 @@ fn check_quoted(word: &[u8], start: usize, program: bool, seen: Seen) -> Checked
 
 // A word that starts at a place: which codes stand with it, or its first fault.
 fn check_word(word: &[u8], start: usize, program: bool, seen: Seen) -> Checked
-    requires { ⌜ (start + length (now word) ≤ 32768) × (0 < length (now word)) ⌝ }
+    requires { ⌜ (start + length (now word) ≤ fileMost) × (0 < length (now word)) ⌝ }
     ensures { λ r. ⌜ step.checkedAs r ≡ step.unlessFault (command.wordFault program (seen .taken) (record { start = start; bytes = now (word .entry) }))
         (step.seeArgument seen (command.argumentOf (record { start = start; bytes = now (word .entry) }))) ⌝ }
 {
@@ -215,7 +216,7 @@ fn check_word(word: &[u8], start: usize, program: bool, seen: Seen) -> Checked
 
 // An unescaped Exec: which codes stand in it, or its fault of the lowest place.
 pub fn check_command(exec: &[u8]) -> Checked
-    requires { ⌜ length (now exec) ≤ 32768 ⌝ }
+    requires { ⌜ length (now exec) ≤ fileMost ⌝ }
     ensures { λ r. ⌜ step.checkedAs r ≡ then step.codesIn (command.readCommand (now (exec .entry))) ⌝ }
 {
     let mut i: usize = 0;

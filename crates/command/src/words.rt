@@ -6,27 +6,6 @@ ghost use lib.ListN.{length, drop};
 ghost use Rattle.base.specs.Lists.{span};
 ghost use Rattle.command.specs.Words as spec;
 
-// Where the next bare quote stands, from a place on, or the end.
-pub fn quote_end(s: &[u8], from: usize) -> usize
-    ensures { λ r. ⌜ r ≡ from + spec.quoteLength (drop from (now (s .entry))) false ⌝ }
-{
-    let mut i = from;
-    let mut taken = false;
-    while i < s.len() {
-        if taken {
-            taken = false;
-            i += 1;
-        } else {
-            if s[i] == b'"' {
-                return i;
-            }
-            taken = s[i] == b'\\';
-            i += 1;
-        }
-    }
-    i
-}
-
 // Where the next space stands, from a place on, or the end.
 fn space_at(s: &[u8], from: usize) -> usize
     ensures { λ r. ⌜ r ≡ from + span spec.notSpace (drop from (now (s .entry))) ⌝ }
@@ -47,7 +26,7 @@ pub fn word_end(s: &[u8], from: usize) -> usize
     ensures { λ r. ⌜ r ≡ from + spec.wordLength (drop from (now (s .entry))) ⌝ }
 {
     if s[from] == b'"' {
-        let closing = quote_end(s, from + 1);
+        let closing = characters::classes::bare_end(s, from + 1, b'"');
         return space_at(s, closing);
     }
     space_at(s, from)

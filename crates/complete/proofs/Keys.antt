@@ -11,7 +11,7 @@ use Rattle.fault.specs.declared.Fault.the-variants.{Incomplete}
 use Rattle.fault.specs.Answer.{Answer, _>>=_, need}
 use Rattle.rows.specs.Rows.{Row, readRows, rawValue}
 use Rattle.rows.specs.Title.{findRow, has}
-use Rattle.rows.specs.Find.{toldOf}
+use Rattle.rows.specs.Find.{foundOf}
 use Rattle.rows.specs.declared.Found.{Found}
 use Rattle.rows.specs.declared.Found.the-variants as told
 use Rattle.rows.proofs.Told.{Told, told-row, told-nothing, found-row, value-stands, told-bounds}
@@ -32,7 +32,7 @@ stands : (f key : List ℕ) {r : Row} {n p e v : ℕ} → Told r n p e v → fin
 unfolding rawValue
 stands f key {r} t i = rw (t .end-is, t .value-is) (value-stands f (found-row f (main key) r i))
 
-module _ (f key : List ℕ) {r : Found} (t : r ≡ toldOf (findRow (readRows f) (main key))) where
+module _ (f key : List ℕ) {r : Found} (t : r ≡ foundOf (findRow (readRows f) (main key))) where
   pub key-row : {n p e v : ℕ} → r ≡ told.Row n p e v → KeyRow f key n e v
   key-row {n} {p} {e} {v} i =
       let o = findRow (readRows f) (main key) in

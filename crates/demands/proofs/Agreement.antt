@@ -8,6 +8,7 @@ use lib.ListN.{length, take, drop, length-append}
 use lib.Seq.{take-at, take-append-seam, take-take}
 use lib.Dec.{leb}
 use borrow.Author.Tests.{le-leb, leb-true}
+use Rattle.base.specs.Bounds.{fileMost}
 use Rattle.base.specs.Lists.{all, joined}
 use Rattle.base.specs.Over.{over}
 use Rattle.base.proofs.Over.{length-over}
@@ -16,7 +17,6 @@ use Rattle.fault.specs.declared.Fault.the-variants.{NoRoom, NothingLeft, Journa
 use Rattle.fault.specs.Answer.{Answer, given, refused, then, atExit}
 use Rattle.record.specs.Record.{recordBytes, listBytes}
 use Rattle.rows.specs.Title.{desktopEntry}
-use Rattle.wellformed.specs.Check.{fileMost}
 use Rattle.wellformed.specs.WellFormed.{wellFormed}
 use Rattle.wellformed.proofs.Accepts.{checks}
 use Rattle.wellformed.proofs.ByLines.{well-lines}
@@ -31,7 +31,7 @@ use Rattle.journal.specs.Lent as alone
 use Rattle.journal.proofs.Numbers.{bounds-fit}
 use Rattle.journal.proofs.Records.{Small, edit-length, AllSmall, recorded, recorded-length, journal-back, lengths-reverse, recorded-parts, recorded-more, small-reverse, lengths-parted, recorded-rest}
 use Rattle.journal.proofs.Forgotten.{rest}
-use Rattle.edit.specs.Calls.{State, content, journalOf, lengthsFit, opened, fileFits, recordFits, applied, request, replayed, undo, redo}
+use Rattle.edit.specs.Calls.{State, content, journalOf, lengthsFit, fileChecked, opened, fileFits, recordFits, applied, request, replayedIn, withFile, replayed, undo, redo}
 use Rattle.edit.proofs.Requested.{fits-most, fits-room, fits-record, requested, requested-used}
 use Rattle.demands.specs.Book.{Call, Do, Undo, Redo, Forget, Book, fileAfter, recordsAfter, bookFile, bookStanding, withLists, bookRequest, withoutOldest, bookForget, bookCall}
 use Rattle.demands.specs.Demand3.{withJournal, stateCall, personFits, told, toldOver, leftBy, startState, startBook, AsInTheBook, Demand3}
@@ -115,7 +115,7 @@ module _ (s : State) (b : Book) (h : Rep s b) where
   journal-is = rw (h .bytes, h .standing, journal-back (h .es) (h .ws) small)
 
   pub opens : opened s ≡ given (record { stand = h .es; wait = h .ws })
-  unfolding opened lengthsFit
+  unfolding opened fileChecked lengthsFit
   opens = rw (le-leb (s .size) (length (s .file)) (h .size), numbers-fit, h .text, checks (bookFile b) (h .well), journal-is)
 
   pub opens-journal : alone.opened (journalOf s) ≡ given (record { stand = h .es; wait = h .ws })
@@ -133,12 +133,12 @@ step-by s b c x y e f t r = record { tells = ap told e ∙ t ∙ ap told (sym f)
 
 -- a file put into the buffer
 abbrev moved : State → List ℕ → ℕ → State
-moved s f n = record { file = bufferWith (s .file) (s .size) f; size = length f; journal = s .journal; used = s .used; standing = n }
+moved s f n = withFile s n f
 
 -- an edit from the journal
 replay : (s : State) (e : Edit) (n : ℕ) (f g : List ℕ) → content s ≡ f → stands e f ≡ true → spliced e f ≡ g → fileFits (length (s .file)) g ≡ true → wellFormed g ≡ true
     → replayed s e n ≡ given (moved s g n)
-unfolding replayed
+unfolding replayed replayedIn
 replay s e n f g t u v w x = rw (t, u, v, w, x)
 
 module _ (s : State) (b : Book) (h : Rep s b) where

@@ -8,6 +8,7 @@ use mathlib.Core.List.{List, [], _∷_, _++_}
 use lib.ListN.{length, getD, length-append}
 use lib.Seq.{take-at, getD-append-seam}
 use lib.Dec.{leb}
+use Rattle.base.specs.Bounds.{fileMost}
 use Rattle.base.specs.Choice.{pick, maybe}
 use Rattle.base.specs.Lists.{any, first}
 use Rattle.base.proofs.Tests.{no}
@@ -25,7 +26,7 @@ use Rattle.rows.specs.Rows.{Row, rows, lineOf, groupAfter, rowsFrom, readRows}
 use Rattle.rows.specs.Title.{desktopEntry, Title, Group, title, sameTitle, seeing}
 use Rattle.rows.proofs.Rows.{rowOf}
 use Rattle.rows.proofs.Sight.{badLine}
-use Rattle.wellformed.specs.Check.{fileMost, titleFault, rowFault, earliest, isGroup, noPlain, titledAs, plainAll, checkAs}
+use Rattle.wellformed.specs.Check.{titleFault, rowFault, earliest, isGroup, noPlain, titledAs, plainAll, checkAs}
 use Rattle.demands.specs.BadLine.{lineAt, BadAt, BadLineTold}
 
 -- ---- 2 comes from the earliest row with a fault

@@ -22,7 +22,7 @@ use Rattle.command.specs.Laws.{allFileCodes}
 use Rattle.command.specs.declared.Piece.{Piece}
 use Rattle.command.specs.declared.Piece.the-variants as piece
 use Rattle.command.proofs.Takers.{one-takes-files}
-use Rattle.exec.specs.Run.{Run, piecesBytes, expandedAll, runs, runsOf}
+use Rattle.run.specs.Run.{Run, piecesBytes, expandedAll, runs, runsOf}
 use Rattle.exec.specs.Expand.{fitItem, nameText, iconText}
 use Rattle.demands.specs.Commands.{Expander, commandIn, Expansion, takesItem, runCount, FilesReach, FilesReachTheProgram, FilesReachTheAction}
 use Rattle.demands.proofs.Expansions.{Known, application-known, action-known, Sound, Listed, argumentsOf, passed, accepts, refuses, all-at, fit-some}
@@ -91,7 +91,7 @@ module _ {by : Expander} (w : Known by) where
 
     expansion-is : {list : List ℕ} {run : ℕ} {out : List ℕ} (x : Expansion by file locale location list run out) → x .command ≡ command
         → x .args ≡ expandedAll (runIn (getD (x .files) run []) (x .files)) command
-    expansion-is x c = let k = seen x in let s = k .sound in let d : s .command ≡ command = k .commanded ∙ c in k .is ∙ rw (← d, s .named, s .pictured)
+    expansion-is x c = let k = seen x in let s = k .sound in let d : s .command ≡ command = k .commanded ∙ c in k .is ∙ rw (← d, s .named, s .icon-read)
 
   module _ (file locale location : List ℕ) (front back : List Argument) where
     whole : (r : Run) × ((list : List ℕ) (run : ℕ) (out : List ℕ) (x : Expansion by file locale location list run out) → x .command ≡ front ++ (Files ∷ back)

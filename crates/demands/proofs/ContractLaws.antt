@@ -5,7 +5,7 @@ use mathlib.Core.Bool.{true, false≢true}
 use mathlib.Core.List.{List, _++_}
 use lib.ListN.{length}
 use lib.Dec.{eqb}
-use Rattle.base.proofs.Tests.{no, all-weaker}
+use Rattle.base.proofs.Tests.{all-weaker}
 use Rattle.fault.specs.declared.Fault.{Fault}
 use Rattle.fault.specs.declared.Fault.the-variants.{TooLong, BadLine, FirstGroup, RepeatedGroup, RepeatedKey, NoPlainKey, BadArgument, Missing, BadEscape, UnfitText, NoRoom, NothingLeft, JournalFull, Damaged, BadExec, BadCode, PostfixesRemain, Incomplete}
 use Rattle.fault.specs.Table.{numberOf, placeOf, byteOf}
@@ -13,13 +13,12 @@ use Rattle.fault.specs.Answer.{Answer, given, refused, then, atExit}
 use Rattle.journal.specs.Journal.{Author, NoPerson, Person, by, kindOf}
 use Rattle.journal.specs.Lent as alone
 use Rattle.journal.specs.Lent.{Lent, forget}
-use Rattle.edit.specs.Calls.{State, content, journalOf}
-use Rattle.edit.specs.Step.{Made}
+use Rattle.edit.specs.Calls.{State, content, journalOf, Made}
 use Rattle.edit.specs.declared.Edited.{Edited}
 use Rattle.edit.specs.declared.Edited.the-variants as edited
 use Rattle.edit.proofs.Applying.{made-done, made-refused}
 use Rattle.batch.specs.Batch.{Batch, batch}
-use Rattle.kveldrim.specs.Abi.{codeOf, placeIn, byteIn, Returned}
+use Rattle.abi.specs.Abi.{codeOf, placeIn, byteIn, Returned}
 use Rattle.demands.specs.Book.{Call, Do, Undo, Redo, Forget, bookCall}
 use Rattle.demands.specs.Demand3.{withJournal, stateCall, personFits, writesKind, Told, toldOf, told, toldOver, leftBy, startState, startBook}
 use Rattle.demands.specs.Batches.{eachTold, batchTold, InPlaceOf, AsTheCalls, BatchIsCalls}

@@ -7,21 +7,22 @@ use mathlib.Core.Option.{some}
 use mathlib.Core.List.{List, [], _∷_}
 use lib.ListN.{length, getD}
 use borrow.Author.Tests.{ltb-true, lt-ltb, le-ltb, eq-eqb}
+use Rattle.base.specs.Bounds.{listMost}
 use Rattle.base.specs.Lists.{ascii, same, any, all}
 use Rattle.base.proofs.Tests.{no, and-both}
 use Rattle.fault.specs.declared.Fault.the-variants.{Missing}
 use Rattle.fault.specs.Answer.{Answer, given, refused, _>>=_, need}
 use Rattle.fault.proofs.Answers.{bind-given, need-given, some-given, given-is}
-use Rattle.record.specs.Record.{readList, listMost, listOf}
+use Rattle.record.specs.Record.{readList, listOf}
 use Rattle.text.specs.Escape.{readText}
 use Rattle.line.specs.Form.{localeForm}
 use Rattle.rows.specs.Rows.{Row, readRows, rawValue}
 use Rattle.rows.specs.Title.{Key, findRow}
 use Rattle.wellformed.specs.Check.{check}
 use Rattle.command.specs.Command.{Argument, readCommand, hasPiece, isName, isIcon}
-use Rattle.exec.specs.Run.{runOf, expandedAll, runs}
+use Rattle.run.specs.Run.{runOf, expandedAll, runs}
 use Rattle.exec.specs.Expand.{fitItem, fitLocation, askedItems, nameText, iconText, runArguments, groupArguments, expand}
-use Rattle.exec.specs.Step.{putOf}
+use Rattle.run.specs.Step.{putOf}
 use Rattle.actions.specs.Actions.{actionGroup, listed, expandAction}
 use Rattle.demands.specs.Commands.{Expander, ofApplication, ofAction}
 
@@ -66,7 +67,7 @@ pub record Sound {by : Expander} (k : Known by) (file locale location : List ℕ
   pub name : List ℕ
   pub named : nameText (readRows file) locale (any (hasPiece isName) command) ≡ given name
   pub icon : List ℕ
-  pub pictured : iconText (readRows file) (by .group) locale (any isIcon command) ≡ given icon
+  pub icon-read : iconText (readRows file) (by .group) locale (any isIcon command) ≡ given icon
 
 -- a list whose items are in order
 pub record Listed (list : List ℕ) (items : List (List ℕ)) : Type 0 where
@@ -133,7 +134,7 @@ module _ {by : Expander} (w : Known by) (file locale location list : List ℕ) (
               name = n .0;
               named = n .1;
               icon = o .0;
-              pictured = o .1;
+              icon-read = o .1;
             };
         items = items;
         listed = record { reads = c .1 ∙ rw i; fit = rw (← i) (g .0) };
@@ -146,7 +147,7 @@ module _ {by : Expander} (w : Known by) (file locale location list : List ℕ) (
   unfolding askedItems groupArguments runArguments
   accepts s items l h =
       w .is file locale location list run
-      ∙ rw (s .checks, l .reads, s .form, l .fit, s .placed, s .allowed, s .found, s .unescaped, s .read, lt-ltb run (runs (s .command) (length items)) h, s .named, s .pictured)
+      ∙ rw (s .checks, l .reads, s .form, l .fit, s .placed, s .allowed, s .found, s .unescaped, s .read, lt-ltb run (runs (s .command) (length items)) h, s .named, s .icon-read)
 
   pub refuses : (s : Sound w file locale location) (items : List (List ℕ)) → Listed list items → runs (s .command) (length items) ≤ run
       → by .expansion file locale location list run ≡ refused Missing

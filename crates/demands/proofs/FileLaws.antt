@@ -9,17 +9,17 @@ use lib.Seq.{take-append-seam}
 use lib.Dec.{eqb, leb}
 use borrow.Author.Tests.{eqb-true}
 use Rattle.base.specs.Choice.{pick, maybe, there}
-use Rattle.base.specs.Lists.{span, all, any, first}
+use Rattle.base.specs.Lists.{all, any, first}
 use Rattle.base.proofs.Tests.{no, none-there as no-row, and-both, or-both}
 use Rattle.base.proofs.Search.{any-as, there-first, first-none, first-passes}
 use Rattle.base.proofs.Search as search
 use Rattle.fault.specs.declared.Fault.the-variants.{BadArgument, Missing}
 use Rattle.fault.specs.Answer.{Answer, given, refused, _>>=_, need, some-or, accepted}
-use Rattle.text.specs.Class.{keyByte}
+use Rattle.characters.specs.Class.{keyByte}
 use Rattle.line.specs.Line.{isBad}
 use Rattle.line.specs.Form.{groupForm, keyForm, plainForm, localeForm}
 use Rattle.rows.specs.Rows.{Row, readRows}
-use Rattle.rows.specs.Title.{desktopEntry, Title, Nameless, Group, Key, title, sameTitle, titles, findRow, has}
+use Rattle.rows.specs.Title.{desktopEntry, Title, Nameless, Group, Key, title, titles, findRow, has}
 use Rattle.rows.proofs.Titles.{sameTitle-true}
 use Rattle.wellformed.specs.Check.{check, plainOf, plainTitle, wanted, noPlain}
 use Rattle.wellformed.specs.WellFormed.{leads, distinct, wellFormedAs, wellFormed}

@@ -23,7 +23,7 @@ use Rattle.journal.proofs.Opened.{opened-says}
 use Rattle.journal.proofs.Records.{lengths-parted, order-parted}
 use Rattle.journal.proofs.Joined.{journal-says}
 use Rattle.journal.proofs.Forgotten.{others, rest, without-none, without-both, oldest-none, oldest-both, forget-shut, forget-is, forget-lacks, forget-says, forget-opened, newer-opened}
-use Rattle.edit.specs.Calls.{State, content, journalOf, lengthsFit, opened, fileFits, replayed, undo, redo}
+use Rattle.edit.specs.Calls.{State, content, journalOf, lengthsFit, fileChecked, opened, replayedIn, withFile, replayed, undo, redo}
 use Rattle.demands.specs.Book.{Forget, Book, fileAfter, withoutOldest, bookForget}
 use Rattle.demands.specs.Demand3.{withJournal, stateCall}
 use Rattle.demands.specs.Forgetting.{ForgetKeepsFile, ForgetKeepsOthers, ForgetKeepsPersons, ForgetNone, ForgetInTurn, AsBefore, UndoAfterForget, NoUndoAfterForget, RedoAfterForget}
@@ -114,12 +114,12 @@ abbrev pub ready : State → Answer (Unit {0})
 ready s = need (leb (s .size) (length (s .file))) Damaged >>= λ _. check (content s)
 
 pub opened-with : (s : State) (j : Journal) → alone.opened (journalOf s) ≡ given j → opened s ≡ (ready s >>= λ _. given j)
-unfolding opened lengthsFit alone.opened
+unfolding opened fileChecked lengthsFit alone.opened
 opened-with s j h =
     let a = need-given (numbersFit (journalOf s)) Damaged (λ _. journalIn (journalOf s)) j h in
     rw (a .0, a .1) (go (leb (s .size) (length (s .file))) (check (content s)))
   where
-    go : (x : Bool) (c : Answer (Unit {0})) → (need (x && true) Damaged >>= λ _. c >>= λ _. given j) ≡ ((need x Damaged >>= λ _. c) >>= λ _. given j)
+    go : (x : Bool) (c : Answer (Unit {0})) → ((need (x && true) Damaged >>= λ _. c) >>= λ _. given j) ≡ ((need x Damaged >>= λ _. c) >>= λ _. given j)
     go true (given u) = refl
     go true (refused f) = refl
     go false c = refl
@@ -197,24 +197,17 @@ replayed-forgot : (s : State) (k : ℕ) (j : Journal) (e : Edit) (es ws : List (
     → let gone : ℕ = lengths (oldest k es) in
     AsBefore k (replayed (withJournal s (without gone (journalOf s))) e (lengths es - gone)) (replayed s e (lengths es))
 unfolding replayed
-replayed-forgot s k j e es ws o i h = go (stands e (content s)) (fileFits (length (s .file)) (spliced e (content s))) (wellFormed (spliced e (content s)))
+replayed-forgot s k j e es ws o i h = go (replayedIn (length (s .file)) (content s) e)
   where
-    file : List ℕ
-    file = spliced e (content s)
+    now : List ℕ → State
+    now file = withFile s (lengths es) file
 
-    now : State
-    now = record { file = bufferWith (s .file) (s .size) file; size = length file; journal = s .journal; used = s .used; standing = lengths es }
+    then-forgot : (file : List ℕ) → stateCall (now file) (Forget k) ≡ given (withJournal (now file) (without (lengths (oldest k es)) (journalOf (now file))))
+    then-forgot file = ap (then (withJournal (now file))) (forget-is (journalOf (now file)) k (record { stand = es; wait = ws }) (others-stand (journalOf s) j es ws o i) h)
 
-    then-forgot : stateCall now (Forget k) ≡ given (withJournal now (without (lengths (oldest k es)) (journalOf now)))
-    then-forgot = ap (then (withJournal now)) (forget-is (journalOf now) k (record { stand = es; wait = ws }) (others-stand (journalOf s) j es ws o i) h)
-
-    go : (x y z : Bool)
-        → AsBefore k (need x Damaged >>= λ _. need y NoRoom >>= λ _. need z Damaged >>= λ _. given (withJournal now (without (lengths (oldest k es)) (journalOf now))))
-        (need x Damaged >>= λ _. need y NoRoom >>= λ _. need z Damaged >>= λ _. given now)
-    go true true true = (refl, sym then-forgot)
-    go true true false = (refl, refl)
-    go true false z = (refl, refl)
-    go false y z = (refl, refl)
+    go : (a : Answer (List ℕ)) → AsBefore k (then (λ file. withJournal (now file) (without (lengths (oldest k es)) (journalOf (now file)))) a) (then now a)
+    go (given file) = (refl, sym (then-forgot file))
+    go (refused f) = (refl, refl)
 
 -- with one more that stands the oldest are the same, and the latest of the others is that one
 module _ (k : ℕ) (e : Authored Edit) (es : List (Authored Edit)) (h : k ≤ length es) where

@@ -14,9 +14,9 @@ use Rattle.command.specs.declared.Piece.{Piece}
 use Rattle.command.specs.declared.Piece.the-variants as piece
 use Rattle.command.specs.Command.{Argument, Files, Icon, Text, isItem, hasPiece, takesFiles}
 use Rattle.command.specs.Laws.{itemCodes, allFileCodes}
-use Rattle.exec.specs.Run.{Put, Run, runOf, pieceBytes, piecesBytes, leavesNothing, expanded, expandedAll}
-use Rattle.exec.specs.Step.{putOf}
-use Rattle.exec.proofs.Spending.{bytes-cons, bytes-none}
+use Rattle.run.specs.Run.{Put, Run, runOf, pieceBytes, piecesBytes, leavesNothing, expanded, expandedAll}
+use Rattle.run.specs.Step.{putOf}
+use Rattle.run.proofs.Spending.{bytes-cons, bytes-none}
 
 -- ---- files as they are
 

@@ -8,6 +8,7 @@ use mathlib.Core.List.{List, [], _∷_, _++_, map}
 use lib.ListN.{length, take, drop, getD, length-append, length-take, length-drop}
 use lib.Dec.{eqb, leb}
 use borrow.Author.Tests.{leb-true}
+use Rattle.base.specs.Bounds.{fileMost, listMost}
 use Rattle.base.specs.Choice.{pick, maybe}
 use Rattle.base.specs.Lists.{ascii, all, first}
 use Rattle.base.proofs.Lists.{length-part}
@@ -15,14 +16,14 @@ use Rattle.base.proofs.Tests.{and-both}
 use Rattle.fault.specs.declared.Fault.the-variants.{Missing}
 use Rattle.fault.specs.Answer.{given, unless}
 use Rattle.fault.proofs.Answers.{bind-given, need-given, some-given, given-is}
-use Rattle.record.specs.Record.{readList, listMost, listOf}
+use Rattle.record.specs.Record.{readList, listOf}
 use Rattle.record.proofs.Sizes.{recordsOf}
 use Rattle.record.proofs.Back.{FitsAll, no-record, one-more, fits}
 use Rattle.record.proofs.Bodies.{list-sound, list-back}
 use Rattle.text.specs.Escape.{readText}
 use Rattle.rows.specs.Rows.{Row, readRows, rawValue}
 use Rattle.rows.specs.Title.{Title, title, sameTitle, findRow, desktopEntry}
-use Rattle.wellformed.specs.Check.{fileMost, checkAs, checkedRows}
+use Rattle.wellformed.specs.Check.{checkAs, checkedRows}
 use Rattle.choice.specs.Locale.{chosen}
 use Rattle.command.specs.declared.Piece.{Piece}
 use Rattle.command.specs.declared.Piece.the-variants as piece
@@ -30,11 +31,11 @@ use Rattle.command.specs.declared.Form.{Form}
 use Rattle.command.specs.declared.Form.the-variants as form
 use Rattle.command.specs.Words.{Word, wordLength, wordsAfter, words, notSpace, insideLength}
 use Rattle.command.specs.Command.{Argument, Files, Icon, Text, piecesAfter, widthOf, inside, formOf, argumentAs, argumentOf, argumentsIn, wordsFault, readCommand}
-use Rattle.exec.specs.Run.{Put, Run, runOf, pieceBytes, piecesBytes, leavesNothing, iconArguments, expanded, expandedAll}
+use Rattle.run.specs.Run.{Put, Run, runOf, pieceBytes, piecesBytes, leavesNothing, iconArguments, expanded, expandedAll}
 use Rattle.exec.specs.Expand.{fitLocation, noZero, nameIn, nameText, iconText}
-use Rattle.exec.specs.Step.{putOf, itemsIn}
-use Rattle.exec.proofs.Spending.{bytes-cons, bytes-none}
-use Rattle.exec.proofs.Listing.{length-cons, length-one, items-length}
+use Rattle.run.specs.Step.{putOf, itemsIn}
+use Rattle.run.proofs.Spending.{bytes-cons, bytes-none}
+use Rattle.run.proofs.Listing.{length-cons, length-one, items-length}
 use Rattle.entry.specs.Lookup.{valueEnds}
 use Rattle.entry.proofs.Lookups.{first-inside, first-stands, chosen-found}
 use Rattle.exec.proofs.Values.{read-le}
@@ -236,7 +237,7 @@ arguments-short {by} {k} {file} {locale} {location} {list} s items w run =
       location = omega (arith, location-short location (s .placed));
     })
     (each-weaker (λ b l. omega arith) h)
-    (omega (arith, icon-short file locale (by .group) _ (s .pictured)))
+    (omega (arith, icon-short file locale (by .group) _ (s .icon-read)))
     (each-weaker (few-more (omega (arith, titled-short file _ (s .row) (s .found) (s .unescaped)))) (command-few (s .exec) (s .command) (s .read))))
   where
     few-more : {n : ℕ} → n ≤ 32768 → (a : Argument) → Few n a → Few 32768 a

@@ -7,6 +7,7 @@ use mathlib.Core.Option.{Option, none, some}
 use mathlib.Core.List.{List, [], _∷_}
 use lib.ListN.{length, take}
 use lib.Dec.{eqb, ltb}
+use Rattle.base.specs.Bounds.{listMost}
 use Rattle.base.specs.Choice.{pick, maybe}
 use Rattle.base.specs.Lists.{ascii, same, any, all, first}
 use Rattle.base.proofs.Tests.{no}
@@ -19,7 +20,7 @@ use Rattle.text.specs.Escape.{readText}
 use Rattle.text.specs.Element.{rawElements, elementsOf}
 use Rattle.line.specs.Name.{byteAt}
 use Rattle.line.specs.Form.{groupForm, keyForm, plainForm, localeForm}
-use Rattle.record.specs.Record.{readList, listMost, listOf}
+use Rattle.record.specs.Record.{readList, listOf}
 use Rattle.requests.specs.Requests.{readRequests}
 use Rattle.rows.specs.Rows.{Row, readRows, rawValue}
 use Rattle.rows.specs.Title.{Key, findRow, has, desktopEntry}
@@ -35,17 +36,17 @@ use Rattle.splice.specs.Edit.{Edit, spliced, turned, stands}
 use Rattle.change.specs.Change.{Request, editOf}
 use Rattle.journal.specs.Journal.{Author, by, editLength, readJournal, nextOf}
 use Rattle.journal.specs.Lent.{forget}
-use Rattle.edit.specs.Calls.{State, content, journalOf, lengthsFit, fileFits, recordFits, opened, applied, request, replayed, undo, redo}
+use Rattle.edit.specs.Calls.{State, content, journalOf, lengthsFit, fileChecked, fileFits, recordFits, opened, applied, request, replayedIn, withFile, replayed, undo, redo}
 use Rattle.batch.specs.Batch.{listed, begun, batch}
 use Rattle.command.specs.Words.{Word, words, insideLength}
 use Rattle.command.specs.Codes.{codeIn, needsBackslash, standsIn}
 use Rattle.command.specs.Command.{takesNext, pieceOf, widthOf, isItem, pieceFault, piecesFault, inside, unfit, quotedFault, faultAs, formOf, wordFault, takesFiles, argumentOf, wordsFault, readCommand, hasPiece, isName, isIcon}
 use Rattle.command.specs.declared.Form.{Form}
 use Rattle.command.specs.declared.Form.the-variants as form
-use Rattle.exec.specs.Run.{runs}
+use Rattle.run.specs.Run.{runs}
 use Rattle.exec.specs.Expand.{fitItem, fitLocation, askedItems, nameIn, nameText, iconText, runArguments, groupArguments, expand}
 use Rattle.actions.specs.Actions as spec
-use Rattle.kveldrim.proofs.NoByte.{read-not2, each-not2, forget-not2}
+use Rattle.abi.proofs.NoByte.{read-not2, each-not2, forget-not2}
 use Rattle.demands.specs.Book.{Call, Do, Undo, Redo, Forget}
 use Rattle.demands.specs.Demand3.{withJournal, stateCall}
 use Rattle.demands.specs.Edits.{EditKeepsWellFormed}
@@ -58,14 +59,14 @@ use Rattle.demands.proofs.BadLines.{bad-line-told}
 -- ---- the check's refusal ends every call
 
 edit-refuses : (s : State) (f : Fault) (c : Call) → lendsFile c ≡ true → lengthsFit s ≡ true → check (content s) ≡ refused f → stateCall s c ≡ refused f
-unfolding request undo redo opened
+unfolding request undo redo opened fileChecked
 edit-refuses s f (Do q) c l e = rw (l, e)
 edit-refuses s f Undo c l e = rw (l, e)
 edit-refuses s f Redo c l e = rw (l, e)
 edit-refuses s f (Forget k) c l e = absurd (false≢true c)
 
 pub check-passed-on : CheckPassedOn
-unfolding CheckPassedOn complete lookup choose askedItems expand spec.actions spec.expandAction batch listed opened
+unfolding CheckPassedOn fileChecked complete lookup choose askedItems expand spec.actions spec.expandAction batch listed opened
 check-passed-on file f e =
     record {
       complete-refuses = rw e;
@@ -95,19 +96,20 @@ complete-not2 rs =
     (λ _. booleans-not2 rs)))))
 
 replayed-not2 : (s : State) (e : Edit) (standing : ℕ) → IfRefused Not2 (replayed s e standing)
-unfolding replayed
+unfolding replayed replayedIn
 replayed-not2 s e standing =
     let file : List ℕ = spliced e (content s) in
-    if-need Not2 (stands e (content s)) Damaged _ refl
-    (λ _. if-need Not2 (fileFits (length (s .file)) file) NoRoom _ refl (λ _. if-need Not2 (wellFormed file) Damaged _ refl (λ _. tt)))
+    if-then Not2 (withFile s standing) (replayedIn (length (s .file)) (content s) e)
+    (if-need Not2 (stands e (content s)) Damaged _ refl
+    (λ _. if-need Not2 (fileFits (length (s .file)) file) NoRoom _ refl (λ _. if-need Not2 (wellFormed file) Damaged _ refl (λ _. tt))))
 
 -- ---- the calls that edit
 
 opened-tells : (s : State) (line byte : ℕ) → opened s ≡ refused (BadLine line byte) → check (content s) ≡ refused (BadLine line byte)
-unfolding opened
+unfolding opened fileChecked
 opened-tells s line byte e =
-    came-first (check (content s)) _ line byte (λ _. if-or Not2 (readJournal (take (s .used) (s .journal)) (s .standing)) Damaged refl)
-    (came-later (lengthsFit s) Damaged _ line byte refl e)
+    came-later (lengthsFit s) Damaged _ line byte refl
+    (came-first (fileChecked s) _ line byte (λ _. if-or Not2 (readJournal (take (s .used) (s .journal)) (s .standing)) Damaged refl) e)
 
 edit-tells : (s : State) (c : Call) (line byte : ℕ) → stateCall s c ≡ refused (BadLine line byte) → check (content s) ≡ refused (BadLine line byte)
 unfolding request applied undo redo

@@ -24,7 +24,7 @@ use Rattle.journal.specs.Lent as alone
 use Rattle.journal.proofs.Opened.{opened-says, opened-by}
 use Rattle.journal.proofs.Joined.{journal-says, journal-parted}
 use Rattle.journal.proofs.Records.{recorded, recorded-length, recorded-back, lengths-reverse}
-use Rattle.edit.specs.Calls.{State, content, journalOf, fileFits, recordFits, opened, replayed, undo, redo}
+use Rattle.edit.specs.Calls.{State, content, journalOf, fileFits, recordFits, opened, replayedIn, withFile, replayed, undo, redo}
 use Rattle.edit.proofs.Requested.{opened-both, request-stands}
 use Rattle.demands.specs.Book.{Call, Do, Undo, Redo, Forget, Book, bookFile, bookStanding, withLists, bookRequest, bookUndo, bookRedo, withoutOldest, bookForget, bookCall}
 use Rattle.demands.specs.Demand3.{stateCall, writesKind, leftBy, startState, startBook}
@@ -237,14 +237,11 @@ persons-moved s j es ws n h i =
 -- an edit from the journal leaves it but for the standing number
 replayed-journal : (s t : State) (e : Edit) (m : ℕ) → replayed s e m ≡ given t → journalOf t ≡ lent (s .journal) (s .used) m
 unfolding replayed
-replayed-journal s t e m h =
-    let f : List ℕ = spliced e (content s) in
-    let u : State = record { file = bufferWith (s .file) (s .size) f; size = length f; journal = s .journal; used = s .used; standing = m } in
-    let last : Answer State = need (wellFormed f) Damaged >>= λ _. given u in
-    let a = need-given (stands e (content s)) Damaged (λ _. need (fileFits (length (s .file)) f) NoRoom >>= λ _. last) t h in
-    let b = need-given (fileFits (length (s .file)) f) NoRoom (λ _. last) t (a .1) in
-    let c = need-given (wellFormed f) Damaged (λ _. given u) t (b .1) in
-    ap journalOf (sym (given-is u t (c .1)))
+replayed-journal s t e m = go (replayedIn (length (s .file)) (content s) e)
+  where
+    go : (a : Answer (List ℕ)) → then (withFile s m) a ≡ given t → journalOf t ≡ lent (s .journal) (s .used) m
+    go (given f) h = ap journalOf (sym (given-is (withFile s m f) t h))
+    go (refused f) h = no (cc)
 
 -- the first of some edits
 first-is : (o : List (Authored Edit)) (e : Authored Edit) → nextOf o ≡ some e → (es : List (Authored Edit)) × (o ≡ e ∷ es)

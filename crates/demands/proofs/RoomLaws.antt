@@ -9,6 +9,7 @@ use lib.ListN.{length, take, drop}
 use lib.Seq.{length-take-le, take-take, drop-append-le}
 use lib.Dec.{eqb, leb}
 use borrow.Author.Tests.{le-leb}
+use Rattle.base.specs.Bounds.{fileMost}
 use Rattle.base.specs.Choice.{pick, maybe}
 use Rattle.base.specs.Lists.{any, first}
 use Rattle.base.proofs.Parts.{drop-take}
@@ -24,7 +25,7 @@ use Rattle.line.specs.declared.Line.the-variants.{Blank, Comment, Header, Entry
 use Rattle.rows.specs.Rows.{Row, readRows}
 use Rattle.rows.specs.Title.{desktopEntry, Title, Group, title, sameTitle, seeing}
 use Rattle.record.specs.Record.{recordBytes}
-use Rattle.wellformed.specs.Check.{fileMost, titleFault, rowFault, earliest, isGroup, noPlain, titledAs, plainAll, checkAs}
+use Rattle.wellformed.specs.Check.{titleFault, rowFault, earliest, isGroup, noPlain, titledAs, plainAll, checkAs}
 use Rattle.splice.specs.Edit.{Edit, spliced}
 use Rattle.change.specs.Change.{Request, editOf}
 use Rattle.journal.specs.Journal.{Authored, by, editRecord, editLength, lengths, Journal, oldest}

@@ -7,7 +7,7 @@ use mathlib.Core.List.{List}
 use Rattle.base.specs.Lists.{ascii, part, all}
 use Rattle.fault.specs.declared.Fault.the-variants.{Missing}
 use Rattle.fault.specs.Answer.{given, _>>=_, some-or, then}
-use Rattle.text.specs.Class.{keyByte}
+use Rattle.characters.specs.Class.{keyByte}
 use Rattle.text.specs.Escape.{readText}
 use Rattle.text.specs.Step.{textOf}
 use Rattle.line.specs.Form.{groupForm, plainForm, localeForm}

@@ -7,11 +7,12 @@ use mathlib.Core.Option.{some}
 use mathlib.Core.List.{List, [], _∷_, _++_}
 use lib.ListN.{length, getD}
 use lib.Dec.{eqb}
+use Rattle.base.specs.Bounds.{listMost}
 use Rattle.base.specs.Choice.{pick}
 use Rattle.base.specs.Lists.{ascii, any}
 use Rattle.fault.specs.declared.Fault.the-variants.{Missing}
 use Rattle.fault.specs.Answer.{Answer, given, refused, _>>=_, some-or, accepted}
-use Rattle.record.specs.Record.{readList, listMost, listOf}
+use Rattle.record.specs.Record.{readList, listOf}
 use Rattle.text.specs.Escape.{readText}
 use Rattle.rows.specs.Rows.{readRows, rawValue}
 use Rattle.rows.specs.Title.{Key, findRow, desktopEntry}
@@ -19,7 +20,7 @@ use Rattle.command.specs.Command.{Argument, Files, Text, isItem, hasPiece, read
 use Rattle.command.specs.Laws.{allFileCodes}
 use Rattle.command.specs.declared.Piece.{Piece}
 use Rattle.command.specs.declared.Piece.the-variants as piece
-use Rattle.exec.specs.Run.{Run, piecesBytes, expandedAll}
+use Rattle.run.specs.Run.{Run, piecesBytes, expandedAll}
 use Rattle.exec.specs.Expand.{expand}
 use Rattle.actions.specs.Actions.{actionGroup, expandAction}
 

@@ -12,14 +12,13 @@ use Rattle.journal.specs.Journal.{Author}
 use Rattle.journal.specs.Lent as alone
 use Rattle.journal.specs.Lent.{Lent, forget, leftIn, Forgets}
 use Rattle.journal.specs.declared.Forgot.{Forgot}
-use Rattle.edit.specs.Calls.{State, journalOf}
-use Rattle.edit.specs.Step.{lent, Made}
+use Rattle.edit.specs.Calls.{State, journalOf, lent, Made}
 use Rattle.edit.specs.declared.Edited.{Edited}
 use Rattle.edit.specs.declared.Edited.the-variants as edited
 use Rattle.batch.specs.Batch as many
-use Rattle.batch.specs.Batch.{batch, answered}
+use Rattle.batch.specs.Batch.{batch, batchOf}
 use Rattle.batch.specs.declared.Batched.{Batched}
-use Rattle.kveldrim.specs.Abi.{Called, CalledOnJournal, CalledBatch}
+use Rattle.abi.specs.Abi.{Called, CalledOnJournal, CalledBatch}
 use Rattle.demands.specs.Book.{Call, Forget, Book, bookCall}
 use Rattle.demands.specs.Demand3.{withJournal, stateCall, personFits, writesKind, Told, Accepted, Refused, toldOf, told, leftBy, startState, startBook, AsInTheBook}
 use Rattle.demands.specs.Batches.{eachTold, batchTold, InPlaceOf}
@@ -60,8 +59,8 @@ pub data ByContract : State → List Call → List Told → State → Type 0 whe
   forgot : {s : State} {k : ℕ} {r : Forgot} {journal : List ℕ}
       → Forgets (journalOf s) k r journal → ByContract s (Forget k ∷ []) (told (leftIn journal r) ∷ []) (afterForgot s r journal)
   batched : {s : State} {author : Author} {list : List ℕ} {r : Batched} {file journal : List ℕ} {cs : List Call} {xs : List Told}
-      → many.Made (batch s author list) r file journal → InPlaceOf s author list (batchTold (answered r file journal)) cs xs
-      → ByContract s cs xs (answered r file journal .state)
+      → many.Made (batch s author list) r file journal → InPlaceOf s author list (batchTold (batchOf r file journal)) cs xs
+      → ByContract s cs xs (batchOf r file journal .state)
 
 -- what a C program is told: 0 is accepted
 abbrev pub toldIn : ℕ → ℕ → ℕ → Told

@@ -10,7 +10,7 @@ use Rattle.base.specs.Choice.{maybe}
 use Rattle.base.specs.Lists.{part, span, any}
 use Rattle.fault.specs.declared.Fault.the-variants.{BadArgument, Missing}
 use Rattle.fault.specs.Answer.{Answer, given, refused, _>>=_, need, some-or, then, accepted}
-use Rattle.text.specs.Class.{keyByte}
+use Rattle.characters.specs.Class.{keyByte}
 use Rattle.line.specs.Locale.{parts}
 use Rattle.line.specs.Form.{groupForm, keyForm, plainForm, localeForm}
 use Rattle.rows.specs.Rows.{Row, readRows}

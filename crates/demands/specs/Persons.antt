@@ -4,6 +4,7 @@ use Prim.Native.Nat.{ℕ, suc, _<_}
 use mathlib.Core.Bool.{true}
 use mathlib.Core.List.{List, _++_}
 use lib.ListN.{length}
+use Rattle.base.specs.Bounds.{journalMost}
 use Rattle.base.specs.Choice.{there}
 use Rattle.base.specs.Lists.{all}
 use Rattle.fault.specs.declared.Fault.the-variants.{NothingLeft}
@@ -11,7 +12,7 @@ use Rattle.fault.specs.Answer.{given, refused, atExit}
 use Rattle.record.specs.Record.{readList}
 use Rattle.wellformed.specs.WellFormed.{wellFormed}
 use Rattle.change.specs.Change.{Request}
-use Rattle.journal.specs.Journal.{journalMost, Authored, personOf, Journal}
+use Rattle.journal.specs.Journal.{Authored, personOf, Journal}
 use Rattle.journal.specs.Lent.{usedOf, personIn, person}
 use Rattle.edit.specs.Calls.{State, journalOf, opened, request, undo, redo}
 use Rattle.demands.specs.Book.{Call, Do, Book, inOrder, bookCall}

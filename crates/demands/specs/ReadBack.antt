@@ -5,8 +5,8 @@ use mathlib.Core.Bool.{true}
 use mathlib.Core.List.{List}
 use Rattle.base.specs.Lists.{span}
 use Rattle.fault.specs.Answer.{given}
-use Rattle.text.specs.Class.{spaceByte, valueByte}
-use Rattle.text.specs.Utf8.{isText}
+use Rattle.characters.specs.Class.{spaceByte, valueByte}
+use Rattle.characters.specs.Utf8.{isText}
 use Rattle.text.specs.Escape.{readText, writeText, rawText, fitText}
 
 -- what can be written is given back by reading what was written

@@ -17,7 +17,7 @@ use Rattle.record.proofs.Numbers.{length-number}
 use Rattle.record.proofs.Sizes.{length-head}
 use Rattle.fault.specs.declared.Fault.{Fault}
 use Rattle.fault.specs.declared.Fault.the-variants.{NoRoom, JournalFull}
-use Rattle.fault.specs.Answer.{Answer, given, refused, _>>=_, need, atExit}
+use Rattle.fault.specs.Answer.{Answer, given, refused, _>>=_, need, then, atExit}
 use Rattle.base.proofs.Tests.{no}
 use Rattle.splice.specs.Edit.{Edit, replaced, spliced, bufferWith}
 use Rattle.journal.specs.Journal.{Author, Authored, by, frontLength, Journal, editRecord, editLength}
@@ -28,8 +28,8 @@ use Rattle.change.specs.Change.{Request, editOf}
 use Rattle.change.specs.Target.{newBytes, editBy}
 use Rattle.change.specs.declared.Target.{Target}
 use Rattle.change.specs.declared.Target.the-variants.{Value, Entry, Line as Gone}
-use Rattle.edit.specs.Calls.{State, content, opened, fileFits, recordFits, applied, request}
-use Rattle.edit.specs.Step.{Numbers, lent, told, passed, appliedBy, Made}
+use Rattle.edit.specs.Calls.{State, content, opened, fileFits, recordFits, applied, request, Numbers, lent, Made, numbersOf}
+use Rattle.edit.specs.Step.{passed, appliedBy}
 use Rattle.edit.specs.declared.Edited.{Edited}
 use Rattle.edit.specs.declared.Edited.the-variants.{Done, Refused}
 
@@ -206,7 +206,7 @@ module _ {s : State} {a : Answer State} {file journal : List ℕ} where
   pub made-done : {size used standing : ℕ} → Made s a (Done size used standing) file journal → a ≡ given (lent file size journal used standing)
   made-done {size} {used} {standing} m = go a (m .answer) (m .file-is) (m .journal-is)
     where
-      go : (a : Answer State) → given (record { size = size; used = used; standing = standing }) ≡ told a → file ≡ atExit s a .file → journal ≡ atExit s a .journal
+      go : (a : Answer State) → given (record { size = size; used = used; standing = standing }) ≡ then numbersOf a → file ≡ atExit s a .file → journal ≡ atExit s a .journal
           → a ≡ given (lent file size journal used standing)
       go (refused f) h f-is j-is = no (cc)
       go (given t) h f-is j-is =
@@ -218,6 +218,6 @@ module _ {s : State} {a : Answer State} {file journal : List ℕ} where
   pub made-refused : {f : Fault} → Made s a (Refused f) file journal → (a ≡ refused f) × (file ≡ s .file) × (journal ≡ s .journal)
   made-refused {f} m = go a (m .answer) (m .file-is) (m .journal-is)
     where
-      go : (a : Answer State) → refused f ≡ told a → file ≡ atExit s a .file → journal ≡ atExit s a .journal → (a ≡ refused f) × (file ≡ s .file) × (journal ≡ s .journal)
+      go : (a : Answer State) → refused f ≡ then numbersOf a → file ≡ atExit s a .file → journal ≡ atExit s a .journal → (a ≡ refused f) × (file ≡ s .file) × (journal ≡ s .journal)
       go (given t) h f-is j-is = no (cc)
       go (refused g) h f-is j-is = (ap refused (cc), f-is, j-is)

@@ -20,8 +20,8 @@ use Rattle.wellformed.specs.WellFormed.{wellFormed, CheckAccepts}
 use Rattle.wellformed.proofs.Accepts.{check-accepts}
 use Rattle.splice.specs.Edit.{Edit, replaced, spliced, standsAt, stands, bufferWith}
 use Rattle.splice.proofs.Built.{replaced-length, built}
-use Rattle.edit.specs.Calls.{fileFits}
-use Rattle.edit.specs.Step.{replayedIn, became}
+use Rattle.edit.specs.Calls.{fileFits, replayedIn}
+use Rattle.edit.specs.Step.{became}
 
 -- the check of a file that was copied to a space and edited there
 pub built-checked : (space file new : List ℕ) (place old : ℕ) → place + old ≤ length file → {s t : List ℕ}

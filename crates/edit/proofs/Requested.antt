@@ -8,6 +8,7 @@ use lib.ListN.{length, take}
 use lib.Seq.{take-take}
 use lib.Dec.{leb}
 use borrow.Author.Tests.{leb-true, le-leb}
+use Rattle.base.specs.Bounds.{fileMost, journalMost}
 use Rattle.base.specs.Over.{over}
 use Rattle.base.proofs.Over.{take-over, length-over}
 use Rattle.base.proofs.Tests.{and-both}
@@ -16,7 +17,7 @@ use Rattle.fault.specs.Answer.{Answer, given, _>>=_, need, accepted}
 use Rattle.fault.proofs.Answers.{need-given, bind-given, given-is}
 use Rattle.record.specs.Record.{recordBytes}
 use Rattle.rows.specs.Title.{desktopEntry}
-use Rattle.wellformed.specs.Check.{fileMost, check}
+use Rattle.wellformed.specs.Check.{check}
 use Rattle.wellformed.specs.WellFormed.{wellFormed, CheckAccepts}
 use Rattle.wellformed.proofs.Accepts.{check-accepts, checks}
 use Rattle.wellformed.proofs.ByLines.{well-lines}
@@ -25,13 +26,13 @@ use Rattle.splice.proofs.Splits.{splits-length, buffer-content, buffer-length}
 use Rattle.change.specs.Change.{Request, editOf}
 use Rattle.change.proofs.Accepted.{edit-splits}
 use Rattle.change.proofs.Kept.{edit-keeps}
-use Rattle.journal.specs.Journal.{journalMost, Authored, by, personOf, Journal, editRecord, editLength}
+use Rattle.journal.specs.Journal.{Authored, by, personOf, Journal, editRecord, editLength}
 use Rattle.journal.specs.Lent.{usedOf, numbersFit, journalIn}
 use Rattle.journal.specs.Lent as alone
 use Rattle.journal.proofs.Opened.{opened-says, opened-by}
 use Rattle.journal.proofs.Joined.{journal-more}
 use Rattle.journal.proofs.Records.{Small, edit-length}
-use Rattle.edit.specs.Calls.{State, content, journalOf, lengthsFit, opened, fileFits, recordFits, applied, request}
+use Rattle.edit.specs.Calls.{State, content, journalOf, lengthsFit, opened, fileChecked, fileFits, recordFits, applied, request}
 
 -- ---- what an accepted call says
 
@@ -75,10 +76,10 @@ pub record Done (s t : State) (q : Authored Request) : Type 0 where
   pub is : requested s (content s) (by (q .author) edit) ≡ t
 
 pub opened-well : (s : State) (j : Journal) → opened s ≡ given j → wellFormed (content s) ≡ true
-unfolding opened CheckAccepts
+unfolding opened fileChecked CheckAccepts
 opened-well s j e =
-    let a = need-given (lengthsFit s) Damaged (λ _. check (content s) >>= λ _. journalIn (journalOf s)) j e in
-    let b = bind-given (check (content s)) (λ _. journalIn (journalOf s)) j (a .1) in
+    let a = bind-given (fileChecked s) (λ _. journalIn (journalOf s)) j e in
+    let b = need-given (lengthsFit s) Damaged (λ _. check (content s)) (a .0) (a .1) in
     sym (check-accepts desktopEntry (content s)) ∙ ap accepted (b .1)
 
 pub done : (s t : State) (q : Authored Request) → request s q ≡ given t → Done s t q
@@ -118,15 +119,15 @@ pub record Both (s : State) (j : Journal) : Type 0 where
   pub journal-opened : alone.opened (journalOf s) ≡ given j
 
 pub opened-both : (s : State) (j : Journal) → opened s ≡ given j → Both s j
-unfolding opened lengthsFit alone.opened
+unfolding opened fileChecked lengthsFit alone.opened
 opened-both s j h =
-    let a = need-given (leb (s .size) (length (s .file)) && numbersFit (journalOf s)) Damaged (λ _. check (content s) >>= λ _. alone.journalIn (journalOf s)) j h in
-    let l = and-both (leb (s .size) (length (s .file))) (numbersFit (journalOf s)) (a .0) in
-    let b = bind-given (check (content s)) (λ _. alone.journalIn (journalOf s)) j (a .1) in
-    record { size-fits = leb-true _ _ (l .0); well = opened-well s j h; journal-opened = rw (l .1) (b .2) }
+    let a = bind-given (fileChecked s) (λ _. alone.journalIn (journalOf s)) j h in
+    let b = need-given (leb (s .size) (length (s .file)) && numbersFit (journalOf s)) Damaged (λ _. check (content s)) (a .0) (a .1) in
+    let l = and-both (leb (s .size) (length (s .file))) (numbersFit (journalOf s)) (b .0) in
+    record { size-fits = leb-true _ _ (l .0); well = opened-well s j h; journal-opened = rw (l .1) (a .2) }
 
 both-opened : (s : State) (j : Journal) → Both s j → opened s ≡ given j
-unfolding opened lengthsFit alone.opened
+unfolding opened fileChecked lengthsFit alone.opened
 both-opened s j w =
     let a = need-given (numbersFit (journalOf s)) Damaged (λ _. alone.journalIn (journalOf s)) j (w .journal-opened) in
     rw (le-leb (s .size) (length (s .file)) (w .size-fits), a .0, checks (content s) (w .well)) (a .1)

@@ -4,48 +4,21 @@ use Prim.Native.Nat.{ℕ, _≤_}
 use mathlib.Core.Bool.{true}
 use mathlib.Core.List.{List}
 use lib.ListN.{length, take}
-use Rattle.fault.specs.declared.Fault.the-variants.{Damaged, NoRoom}
-use Rattle.fault.specs.Answer.{Answer, given, refused, _>>=_, need, then, atExit}
+use Rattle.base.specs.Bounds.{fileMost, journalMost}
+use Rattle.fault.specs.Answer.{Answer, given, refused, _>>=_}
 use Rattle.rows.specs.Find.{noneBad}
-use Rattle.wellformed.specs.Check.{fileMost, check}
-use Rattle.wellformed.specs.WellFormed.{wellFormed}
-use Rattle.splice.specs.Edit.{Edit, spliced, stands, bufferWith}
-use Rattle.journal.specs.Journal.{Author, by, journalMost}
-use Rattle.edit.specs.Calls.{State, content, lengthsFit, fileFits, applied}
-use Rattle.edit.specs.declared.Edited.{Edited}
-use Rattle.edit.specs.declared.Edited.the-variants as edited
+use Rattle.splice.specs.Edit.{Edit, bufferWith}
+use Rattle.journal.specs.Journal.{Author, by}
+use Rattle.journal.specs.declared.Way.{Way}
+use Rattle.journal.specs.declared.Way.the-variants as way
+use Rattle.edit.specs.Calls.{State, Numbers, applied, undo, redo}
 use Rattle.edit.specs.declared.Replayed.{Replayed}
 use Rattle.edit.specs.declared.Replayed.the-variants as replay
-
--- the three numbers after a call
-pub record Numbers : Type 0 where
-  pub size : ℕ
-  pub used : ℕ
-  pub standing : ℕ
-
--- what is lent
-abbrev pub lent : List ℕ → ℕ → List ℕ → ℕ → ℕ → State
-lent file size journal used standing = record { file = file; size = size; journal = journal; used = used; standing = standing }
-
--- what an answer says
-abbrev pub answered : Edited → Answer Numbers
-answered (edited.Done size used standing) = given (record { size = size; used = used; standing = standing })
-answered (edited.Refused f) = refused f
-
--- what a call tells in numbers
-abbrev pub told : Answer State → Answer Numbers
-told a = then (λ s. record { size = s .size; used = s .used; standing = s .standing }) a
 
 -- an answer without its value
 abbrev pub passed : {A : Type 0} → Answer A → Answer (Unit {0})
 passed (given a) = given tt
 passed (refused f) = refused f
-
--- lengths, then the file's own faults
-unfoldable pub readied : State → Answer (Unit {0})
-readied s = do
-  _ ← need (lengthsFit s) Damaged
-  check (content s)
 
 -- what a set or remove needs of a file and a journal that were opened: the file lies in its buffer, is not too long and has no bad line, and what
 -- stands is not too long
@@ -59,15 +32,7 @@ pub record Ready (file : List ℕ) (size standing : ℕ) : Type 0 where
 abbrev pub swap : ℕ → List ℕ → List ℕ → Edit
 swap place gone come = record { place = place; old = gone; new = come }
 
--- the file after an edit from the journal, in a buffer of so many bytes
-unfoldable pub replayedIn : ℕ → List ℕ → Edit → Answer (List ℕ)
-replayedIn room file e = do
-  _ ← need (stands e file) Damaged
-  _ ← need (fileFits room (spliced e file)) NoRoom
-  _ ← need (wellFormed (spliced e file)) Damaged
-  given (spliced e file)
-
--- the length of that file
+-- the length of the file after an edit from the journal
 abbrev pub sized : Replayed → Answer ℕ
 sized (replay.Size n) = given n
 sized (replay.Refused f) = refused f
@@ -85,8 +50,7 @@ became buffer size (refused f) = buffer
 abbrev pub appliedBy : State → Author → Answer Edit → Answer State
 appliedBy s author a = a >>= λ e. applied s (by author e)
 
--- a call that answers so and leaves these bytes in both buffers
-pub record Made (s : State) (a : Answer State) (r : Edited) (file journal : List ℕ) : Type 0 where
-  pub answer : answered r ≡ told a
-  pub file-is : file ≡ atExit s a .file
-  pub journal-is : journal ≡ atExit s a .journal
+-- undo or redo, by the way through the journal
+abbrev pub undoOrRedo : Way → State → Answer State
+undoOrRedo way.Undo s = undo s
+undoOrRedo way.Redo s = redo s

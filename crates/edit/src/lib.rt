@@ -1,12 +1,15 @@
 // Set, remove, undo and redo on two lent buffers and three numbers.
+use change::Operation;
 use change::Target;
 use fault::Fault;
 use journal::Next;
+use journal::Way;
 use wellformed::Checked;
 ghost use mathlib.Core.Path.{_≡_};
 ghost use mathlib.Core.Bool.{true};
 ghost use Prim.Native.Nat.{_+_, _-_, _≤_};
 ghost use lib.ListN.{length, take};
+ghost use Rattle.base.specs.Bounds.{fileMost, journalMost};
 ghost use Rattle.base.specs.Lists.{part};
 ghost use Rattle.base.specs.Over.{over};
 ghost use Rattle.fault.specs.Answer.{given, then};
@@ -17,7 +20,7 @@ ghost use Rattle.journal.specs.Journal.{Person, by, editRecord};
 ghost use Rattle.change.specs.Change as request;
 ghost use Rattle.change.specs.Target as target;
 ghost use Rattle.edit.specs.Calls as calls;
-ghost use Rattle.wellformed.specs.Pass as pass;
+ghost use Rattle.wellformed.specs.Check as check;
 ghost use Rattle.edit.specs.Step as step;
 
 // What a call answers: the file's new length and the journal's two new numbers, or its refusal.
@@ -43,8 +46,8 @@ struct Part {
 }
 
 // Whether the numbers fit the buffers (14), and then the file's own faults (1 to 6).
-fn ready(file: &[u8], size: usize, journal: &[u8], used: usize, standing: usize) -> Checked
-    ensures { λ r. ⌜ pass.answered r ≡ step.readied (step.lent (now (file .entry)) size (now (journal .entry)) used standing) ⌝ }
+fn check_file(file: &[u8], size: usize, journal: &[u8], used: usize, standing: usize) -> Checked
+    ensures { λ r. ⌜ check.answered r ≡ calls.fileChecked (calls.lent (now (file .entry)) size (now (journal .entry)) used standing) ⌝ }
 {
     if file.len() < size {
         return Checked::Refused(Fault::Damaged);
@@ -95,9 +98,9 @@ fn make(
     text: &[u8],
     t: Target,
 ) -> Edited
-    requires { ⌜ (size ≤ length (now file)) × (size ≤ 32768) × (standing ≤ 65536) × (place + old ≤ size) ⌝ }
-    ensures { λ r. ⌜ step.Made (step.lent (now (file .entry)) size (now (journal .entry)) 0 standing)
-        (step.appliedBy (step.lent (now (file .entry)) size (now (journal .entry)) 0 standing) (Person person)
+    requires { ⌜ (size ≤ length (now file)) × (size ≤ fileMost) × (standing ≤ journalMost) × (place + old ≤ size) ⌝ }
+    ensures { λ r. ⌜ calls.Made (calls.lent (now (file .entry)) size (now (journal .entry)) 0 standing)
+        (step.appliedBy (calls.lent (now (file .entry)) size (now (journal .entry)) 0 standing) (Person person)
         (given (record { place = place; old = part place (place + old) (take size (now (file .entry))); new = target.newBytes (now (key .entry)) (now (text .entry)) t })))
         r (now (file .exit)) (now (journal .exit)) ⌝ }
 {
@@ -106,14 +109,14 @@ fn make(
     if file.len() < len {
         return Edited::Refused(Fault::NoRoom);
     }
-    if 32768 < len {
+    if base::FILE_MOST < len {
         return Edited::Refused(Fault::NoRoom);
     }
     let end = standing + (20 + old + n);
     if journal.len() < end {
         return Edited::Refused(Fault::JournalFull);
     }
-    if 65536 < end {
+    if base::JOURNAL_MOST < end {
         return Edited::Refused(Fault::JournalFull);
     }
     write(
@@ -147,9 +150,9 @@ fn apply(
     text: &[u8],
     t: Target,
 ) -> Edited
-    requires { ⌜ (size ≤ length (now file)) × (size ≤ 32768) × (standing ≤ 65536) × target.Inside size t ⌝ }
-    ensures { λ r. ⌜ step.Made (step.lent (now (file .entry)) size (now (journal .entry)) 0 standing)
-        (step.appliedBy (step.lent (now (file .entry)) size (now (journal .entry)) 0 standing) (Person person)
+    requires { ⌜ (size ≤ length (now file)) × (size ≤ fileMost) × (standing ≤ journalMost) × target.Inside size t ⌝ }
+    ensures { λ r. ⌜ calls.Made (calls.lent (now (file .entry)) size (now (journal .entry)) 0 standing)
+        (step.appliedBy (calls.lent (now (file .entry)) size (now (journal .entry)) 0 standing) (Person person)
         (target.editBy (take size (now (file .entry))) (now (key .entry)) (now (text .entry)) t))
         r (now (file .exit)) (now (journal .exit)) ⌝ }
 {
@@ -189,52 +192,33 @@ fn apply(
     }
 }
 
-// A set in what was opened before.
-pub fn make_set(
+// A request in what was opened before.
+pub fn carry_out(
     file: &mut [u8],
     size: usize,
     journal: &mut [u8],
     standing: usize,
     person: u16,
+    op: Operation,
     group: &[u8],
     key: &[u8],
     text: &[u8],
 ) -> Edited
     requires { ⌜ step.Ready (now file) size standing ⌝ }
-    ensures { λ r. ⌜ step.Made (step.lent (now (file .entry)) size (now (journal .entry)) 0 standing)
-        (step.appliedBy (step.lent (now (file .entry)) size (now (journal .entry)) 0 standing) (Person person)
-        (request.editOf (take size (now (file .entry))) (request.Set (now (group .entry)) (now (key .entry)) (now (text .entry)))))
+    ensures { λ r. ⌜ calls.Made (calls.lent (now (file .entry)) size (now (journal .entry)) 0 standing)
+        (calls.requestOpened (calls.lent (now (file .entry)) size (now (journal .entry)) 0 standing)
+        (by (Person person) (target.requestBy op (now (group .entry)) (now (key .entry)) (now (text .entry)))))
         r (now (file .exit)) (now (journal .exit)) ⌝ }
 {
-    let t = change::set_target(&file[..size], group, key, text);
+    let t = change::find_target(&file[..size], op, group, key, text);
     apply(file, size, journal, standing, person, key, text, t)
-}
-
-// A remove in what was opened before.
-pub fn make_remove(
-    file: &mut [u8],
-    size: usize,
-    journal: &mut [u8],
-    standing: usize,
-    person: u16,
-    group: &[u8],
-    key: &[u8],
-) -> Edited
-    requires { ⌜ step.Ready (now file) size standing ⌝ }
-    ensures { λ r. ⌜ step.Made (step.lent (now (file .entry)) size (now (journal .entry)) 0 standing)
-        (step.appliedBy (step.lent (now (file .entry)) size (now (journal .entry)) 0 standing) (Person person)
-        (request.editOf (take size (now (file .entry))) (request.Remove (now (group .entry)) (now (key .entry)))))
-        r (now (file .exit)) (now (journal .exit)) ⌝ }
-{
-    let t = change::remove_target(&file[..size], group, key, key);
-    apply(file, size, journal, standing, person, key, key, t)
 }
 
 // What every set and remove asks first: lengths (14), the file's own faults (1 to 6), the journal (14).
 pub fn check_lent(file: &[u8], size: usize, journal: &[u8], used: usize, standing: usize) -> Checked
-    ensures { λ r. ⌜ pass.answered r ≡ step.passed (calls.opened (step.lent (now (file .entry)) size (now (journal .entry)) used standing)) ⌝ }
+    ensures { λ r. ⌜ check.answered r ≡ step.passed (calls.opened (calls.lent (now (file .entry)) size (now (journal .entry)) used standing)) ⌝ }
 {
-    match ready(file, size, journal, used, standing) {
+    match check_file(file, size, journal, used, standing) {
         Checked::Refused(f) => Checked::Refused(f),
         Checked::Sound => {
             if journal::sound(&journal[..used], standing) {
@@ -242,6 +226,30 @@ pub fn check_lent(file: &[u8], size: usize, journal: &[u8], used: usize, standin
             }
             Checked::Refused(Fault::Damaged)
         }
+    }
+}
+
+// A person's request: what every request asks first, and then its own.
+fn request(
+    file: &mut [u8],
+    size: usize,
+    journal: &mut [u8],
+    used: usize,
+    standing: usize,
+    person: u16,
+    op: Operation,
+    group: &[u8],
+    key: &[u8],
+    text: &[u8],
+) -> Edited
+    ensures { λ r. ⌜ calls.Made (calls.lent (now (file .entry)) size (now (journal .entry)) used standing)
+        (calls.request (calls.lent (now (file .entry)) size (now (journal .entry)) used standing)
+        (by (Person person) (target.requestBy op (now (group .entry)) (now (key .entry)) (now (text .entry)))))
+        r (now (file .exit)) (now (journal .exit)) ⌝ }
+{
+    match check_lent(file, size, journal, used, standing) {
+        Checked::Refused(f) => Edited::Refused(f),
+        Checked::Sound => carry_out(file, size, journal, standing, person, op, group, key, text),
     }
 }
 
@@ -257,14 +265,22 @@ pub fn set(
     key: &[u8],
     text: &[u8],
 ) -> Edited
-    ensures { λ r. ⌜ step.Made (step.lent (now (file .entry)) size (now (journal .entry)) used standing)
-        (calls.request (step.lent (now (file .entry)) size (now (journal .entry)) used standing) (by (Person person) (request.Set (now (group .entry)) (now (key .entry)) (now (text .entry)))))
+    ensures { λ r. ⌜ calls.Made (calls.lent (now (file .entry)) size (now (journal .entry)) used standing)
+        (calls.request (calls.lent (now (file .entry)) size (now (journal .entry)) used standing) (by (Person person) (request.Set (now (group .entry)) (now (key .entry)) (now (text .entry)))))
         r (now (file .exit)) (now (journal .exit)) ⌝ }
 {
-    match check_lent(file, size, journal, used, standing) {
-        Checked::Refused(f) => Edited::Refused(f),
-        Checked::Sound => make_set(file, size, journal, standing, person, group, key, text),
-    }
+    request(
+        file,
+        size,
+        journal,
+        used,
+        standing,
+        person,
+        Operation::Set,
+        group,
+        key,
+        text,
+    )
 }
 
 // A person removes the entry of a key with its postfix in a group, with its line.
@@ -278,14 +294,22 @@ pub fn remove(
     group: &[u8],
     key: &[u8],
 ) -> Edited
-    ensures { λ r. ⌜ step.Made (step.lent (now (file .entry)) size (now (journal .entry)) used standing)
-        (calls.request (step.lent (now (file .entry)) size (now (journal .entry)) used standing) (by (Person person) (request.Remove (now (group .entry)) (now (key .entry)))))
+    ensures { λ r. ⌜ calls.Made (calls.lent (now (file .entry)) size (now (journal .entry)) used standing)
+        (calls.request (calls.lent (now (file .entry)) size (now (journal .entry)) used standing) (by (Person person) (request.Remove (now (group .entry)) (now (key .entry)))))
         r (now (file .exit)) (now (journal .exit)) ⌝ }
 {
-    match check_lent(file, size, journal, used, standing) {
-        Checked::Refused(f) => Edited::Refused(f),
-        Checked::Sound => make_remove(file, size, journal, standing, person, group, key),
-    }
+    request(
+        file,
+        size,
+        journal,
+        used,
+        standing,
+        person,
+        Operation::Remove,
+        group,
+        key,
+        b"",
+    )
 }
 
 // Whether a file is well formed once so many bytes at a place became the new ones. The result is built in a lent space, which may hold
@@ -306,18 +330,18 @@ fn built_well(space: &mut [u8], file: &[u8], place: usize, old: usize, new: &[u8
 
 // The same, built in an array, for a result that is not too long.
 fn makes_well(file: &[u8], place: usize, old: usize, new: &[u8]) -> bool
-    requires { ⌜ (place + old ≤ length (now file)) × (length (now file) ≤ 32768) × (length (now file) - old + length (now new) ≤ 32768) ⌝ }
+    requires { ⌜ (place + old ≤ length (now file)) × (length (now file) ≤ fileMost) × (length (now file) - old + length (now new) ≤ fileMost) ⌝ }
     ensures { λ r. ⌜ r ≡ wellFormed (replaced place old (now (new .entry)) (now (file .entry))) ⌝ }
 {
-    let mut space = [0u8; 32768];
+    let mut space = [0u8; base::FILE_MOST];
     built_well(&mut space, file, place, old, new)
 }
 
 // What an edit from the journal would make of a file in a buffer of so many bytes: 14 unless its old bytes stand at the place,
 // 11 if the result has no room, 14 unless it is well formed.
 fn outcome(file: &[u8], room: usize, place: usize, gone: &[u8], come: &[u8]) -> Replayed
-    requires { ⌜ (length (now file) ≤ room) × (length (now file) ≤ 32768) ⌝ }
-    ensures { λ r. ⌜ step.sized r ≡ then length (step.replayedIn room (now (file .entry)) (step.swap place (now (gone .entry)) (now (come .entry)))) ⌝ }
+    requires { ⌜ (length (now file) ≤ room) × (length (now file) ≤ fileMost) ⌝ }
+    ensures { λ r. ⌜ step.sized r ≡ then length (calls.replayedIn room (now (file .entry)) (step.swap place (now (gone .entry)) (now (come .entry)))) ⌝ }
 {
     if !splice::stands(file, place, gone) {
         return Replayed::Refused(Fault::Damaged);
@@ -326,7 +350,7 @@ fn outcome(file: &[u8], room: usize, place: usize, gone: &[u8], come: &[u8]) -> 
     if room - kept < come.len() {
         return Replayed::Refused(Fault::NoRoom);
     }
-    if 32768 - kept < come.len() {
+    if base::FILE_MOST - kept < come.len() {
         return Replayed::Refused(Fault::NoRoom);
     }
     if makes_well(file, place, gone.len(), come) {
@@ -337,9 +361,9 @@ fn outcome(file: &[u8], room: usize, place: usize, gone: &[u8], come: &[u8]) -> 
 
 // An edit from the journal: decided first, and then made in the file's own buffer.
 fn replay(file: &mut [u8], size: usize, place: usize, gone: &[u8], come: &[u8]) -> Replayed
-    requires { ⌜ (size ≤ length (now file)) × (size ≤ 32768) ⌝ }
-    ensures answer { λ r. ⌜ step.sized r ≡ then length (step.replayedIn (length (now (file .entry))) (take size (now (file .entry))) (step.swap place (now (gone .entry)) (now (come .entry)))) ⌝ }
-    ensures file { λ _. ⌜ now (file .exit) ≡ step.became (now (file .entry)) size (step.replayedIn (length (now (file .entry))) (take size (now (file .entry))) (step.swap place (now (gone .entry)) (now (come .entry)))) ⌝ }
+    requires { ⌜ (size ≤ length (now file)) × (size ≤ fileMost) ⌝ }
+    ensures answer { λ r. ⌜ step.sized r ≡ then length (calls.replayedIn (length (now (file .entry))) (take size (now (file .entry))) (step.swap place (now (gone .entry)) (now (come .entry)))) ⌝ }
+    ensures file { λ _. ⌜ now (file .exit) ≡ step.became (now (file .entry)) size (calls.replayedIn (length (now (file .entry))) (take size (now (file .entry))) (step.swap place (now (gone .entry)) (now (come .entry)))) ⌝ }
 {
     let room = file.len();
     match outcome(&file[..size], room, place, gone, come) {
@@ -362,10 +386,10 @@ fn again(
     gone: Part,
     come: Part,
 ) -> Edited
-    requires { ⌜ (size ≤ length (now file)) × (size ≤ 32768) ⌝ }
+    requires { ⌜ (size ≤ length (now file)) × (size ≤ fileMost) ⌝ }
     requires { ⌜ (gone .from ≤ gone .to) × (gone .to ≤ length (now edits)) × (come .from ≤ come .to) × (come .to ≤ length (now edits)) ⌝ }
-    ensures answer { λ r. ⌜ step.answered r ≡ then (step.numbers used standing) (step.replayedIn (length (now (file .entry))) (take size (now (file .entry))) (step.swap place (part (gone .from) (gone .to) (now (edits .entry))) (part (come .from) (come .to) (now (edits .entry))))) ⌝ }
-    ensures file { λ _. ⌜ now (file .exit) ≡ step.became (now (file .entry)) size (step.replayedIn (length (now (file .entry))) (take size (now (file .entry))) (step.swap place (part (gone .from) (gone .to) (now (edits .entry))) (part (come .from) (come .to) (now (edits .entry))))) ⌝ }
+    ensures answer { λ r. ⌜ calls.answered r ≡ then (step.numbers used standing) (calls.replayedIn (length (now (file .entry))) (take size (now (file .entry))) (step.swap place (part (gone .from) (gone .to) (now (edits .entry))) (part (come .from) (come .to) (now (edits .entry))))) ⌝ }
+    ensures file { λ _. ⌜ now (file .exit) ≡ step.became (now (file .entry)) size (calls.replayedIn (length (now (file .entry))) (take size (now (file .entry))) (step.swap place (part (gone .from) (gone .to) (now (edits .entry))) (part (come .from) (come .to) (now (edits .entry))))) ⌝ }
 {
     let a = gone.from;
     let b = gone.to;
@@ -381,18 +405,24 @@ fn again(
     }
 }
 
-// Undo: the latest edit that stands is taken back, and its record no longer stands. Refusals: 14 for the numbers, 1 to 6, 14 for the journal,
-// 12 if nothing stands, and those of the edit.
-pub fn undo(file: &mut [u8], size: usize, journal: &[u8], used: usize, standing: usize) -> Edited
-    ensures { λ r. ⌜ step.Made (step.lent (now (file .entry)) size (now (journal .entry)) used standing)
-        (calls.undo (step.lent (now (file .entry)) size (now (journal .entry)) used standing))
+// One edit along the journal: 14 for the numbers, 1 to 6, 14 for the journal, 12 if nothing is left on the way, and the refusals of the edit.
+fn turn(
+    file: &mut [u8],
+    size: usize,
+    journal: &[u8],
+    used: usize,
+    standing: usize,
+    way: Way,
+) -> Edited
+    ensures { λ r. ⌜ calls.Made (calls.lent (now (file .entry)) size (now (journal .entry)) used standing)
+        (step.undoOrRedo way (calls.lent (now (file .entry)) size (now (journal .entry)) used standing))
         r (now (file .exit)) (now (journal .exit)) ⌝ }
 {
-    match ready(file, size, journal, used, standing) {
+    match check_file(file, size, journal, used, standing) {
         Checked::Refused(f) => Edited::Refused(f),
         Checked::Sound => {
             let edits = &journal[..used];
-            match journal::last_standing(edits, standing) {
+            match journal::next_on(edits, standing, way) {
                 Next::Damaged => Edited::Refused(Fault::Damaged),
                 Next::Nothing => Edited::Refused(Fault::NothingLeft),
                 Next::Edit {
@@ -404,38 +434,30 @@ pub fn undo(file: &mut [u8], size: usize, journal: &[u8], used: usize, standing:
                 } => {
                     let older = Part { from: old, to: new };
                     let newer = Part { from: new, to: end };
-                    again(file, size, edits, used, start, place, newer, older)
+                    match way {
+                        Way::Undo => again(file, size, edits, used, start, place, newer, older),
+                        Way::Redo => again(file, size, edits, used, end, place, older, newer),
+                    }
                 }
             }
         }
     }
 }
 
-// Redo: the next edit that waits is made again, and its record stands. The same refusals, 12 if nothing waits.
-pub fn redo(file: &mut [u8], size: usize, journal: &[u8], used: usize, standing: usize) -> Edited
-    ensures { λ r. ⌜ step.Made (step.lent (now (file .entry)) size (now (journal .entry)) used standing)
-        (calls.redo (step.lent (now (file .entry)) size (now (journal .entry)) used standing))
+// Undo: the latest edit that stands is taken back, and its record no longer stands.
+pub fn undo(file: &mut [u8], size: usize, journal: &[u8], used: usize, standing: usize) -> Edited
+    ensures { λ r. ⌜ calls.Made (calls.lent (now (file .entry)) size (now (journal .entry)) used standing)
+        (calls.undo (calls.lent (now (file .entry)) size (now (journal .entry)) used standing))
         r (now (file .exit)) (now (journal .exit)) ⌝ }
 {
-    match ready(file, size, journal, used, standing) {
-        Checked::Refused(f) => Edited::Refused(f),
-        Checked::Sound => {
-            let edits = &journal[..used];
-            match journal::first_waiting(edits, standing) {
-                Next::Damaged => Edited::Refused(Fault::Damaged),
-                Next::Nothing => Edited::Refused(Fault::NothingLeft),
-                Next::Edit {
-                    start: _,
-                    place,
-                    old,
-                    new,
-                    end,
-                } => {
-                    let older = Part { from: old, to: new };
-                    let newer = Part { from: new, to: end };
-                    again(file, size, edits, used, end, place, older, newer)
-                }
-            }
-        }
-    }
+    turn(file, size, journal, used, standing, Way::Undo)
+}
+
+// Redo: the next edit that waits is made again, and its record stands.
+pub fn redo(file: &mut [u8], size: usize, journal: &[u8], used: usize, standing: usize) -> Edited
+    ensures { λ r. ⌜ calls.Made (calls.lent (now (file .entry)) size (now (journal .entry)) used standing)
+        (calls.redo (calls.lent (now (file .entry)) size (now (journal .entry)) used standing))
+        r (now (file .exit)) (now (journal .exit)) ⌝ }
+{
+    turn(file, size, journal, used, standing, Way::Redo)
 }

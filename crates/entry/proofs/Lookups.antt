@@ -14,14 +14,14 @@ use Rattle.choice.proofs.Chosen.{chosen-by}
 use Rattle.line.specs.Form.{groupForm, keyForm, plainForm, localeForm}
 use Rattle.rows.specs.Rows.{Row, readRows, rawValue}
 use Rattle.rows.specs.Title.{Title, Key, title, sameTitle, findRow}
-use Rattle.rows.specs.Find.{toldOf}
+use Rattle.rows.specs.Find.{foundOf}
 use Rattle.rows.proofs.Told.{found-by, line-inside, value-inside, value-stands}
 use Rattle.wellformed.specs.Check.{check}
 use Rattle.entry.specs.Choose.{chosenEnds, choose}
 use Rattle.entry.specs.Lookup.{Extent, valueEnds, lookup, answered, endsOf}
 
 -- what finding tells is what the definition gives
-pub ends-answer : (o : Option Row) → answered (endsOf (toldOf o)) ≡ (some-or o Missing >>= λ r. given (valueEnds r))
+pub ends-answer : (o : Option Row) → answered (endsOf (foundOf o)) ≡ (some-or o Missing >>= λ r. given (valueEnds r))
 unfolding valueEnds
 ends-answer none = refl
 ends-answer (some r) = refl

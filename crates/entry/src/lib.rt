@@ -5,14 +5,13 @@ use rows::Found;
 use wellformed::Checked;
 ghost use mathlib.Core.Path.{_≡_};
 ghost use mathlib.Core.Bool.{true};
-ghost use Rattle.base.specs.Lists.{part};
 ghost use Rattle.line.specs.Form.{plainForm, localeForm};
 ghost use Rattle.rows.specs.Rows.{readRows};
 ghost use Rattle.rows.specs.Find.{noneBad};
 ghost use Rattle.entry.specs.Lookup as spec;
 ghost use Rattle.entry.specs.Choose as choice;
 ghost use Rattle.entry.specs.Complete as whole;
-ghost use Rattle.wellformed.specs.Pass as pass;
+ghost use Rattle.wellformed.specs.Check as check;
 
 // The two ends of a value in the file, the end exclusive, or the refusal.
 pub enum Ends {
@@ -107,7 +106,7 @@ pub fn choose<'a, 'b>(file: &'a [u8], group: &'b [u8], key: &'b [u8], locale: &'
 
 // Well formed and complete, or the fault: 1 to 6, 18.
 pub fn is_complete(file: &[u8]) -> Checked
-    ensures { λ r. ⌜ pass.answered r ≡ whole.complete (now (file .entry)) ⌝ }
+    ensures { λ r. ⌜ check.answered r ≡ whole.complete (now (file .entry)) ⌝ }
 {
     match wellformed::check(file) {
         Checked::Refused(f) => Checked::Refused(f),

@@ -5,17 +5,18 @@ use mathlib.Core.Bool.{Bool, true, false, _&&_}
 use mathlib.Core.Option.{Option, none, some}
 use mathlib.Core.List.{List, []}
 use lib.ListN.{length}
+use Rattle.base.specs.Bounds.{listMost}
 use Rattle.base.specs.Choice.{pick, maybe, there}
 use Rattle.base.specs.Lists.{all}
 use Rattle.base.proofs.Tests.{no}
 use Rattle.fault.specs.declared.Fault.the-variants.{BadArgument, UnfitText, Damaged}
 use Rattle.fault.specs.Answer.{Answer, given, refused, _>>=_, need, some-or, then}
-use Rattle.record.specs.Record.{readList, listMost}
+use Rattle.record.specs.Record.{readList}
 use Rattle.line.specs.Form.{localeForm}
 use Rattle.wellformed.specs.Check.{check}
-use Rattle.exec.specs.Run.{runsOf}
+use Rattle.run.specs.Run.{runsOf}
 use Rattle.exec.specs.Expand.{fitItem, fitLocation, askedItems}
-use Rattle.exec.specs.Step.{itemsIn}
+use Rattle.run.specs.Step.{itemsIn}
 
 -- a list that reads
 pub reads-some : (list : List ℕ) → there (readList 2 listMost list) ≡ true → readList 2 listMost list ≡ some (itemsIn list)
@@ -62,9 +63,6 @@ asked-given file locale location list {n} h =
         by true l h = last (all fitItem bs && fitLocation location) bs (sym c) r l refl h
 
 -- ---- runs
-
-pub runs-none : (item : Bool) → runsOf item 0 ≡ 1
-runs-none item = refl
 
 pub runs-some : (item : Bool) (n : ℕ) → (n ≡ 0 → ⊥) → runsOf item n ≡ pick item n 1
 runs-some item zero h = absurd (h refl)

@@ -19,16 +19,17 @@ use Rattle.text.specs.declared.Written.the-variants as written
 use Rattle.text.proofs.OutputLaws.{Leaves, leaves-refused}
 use Rattle.rows.specs.Rows.{Row, readRows}
 use Rattle.rows.specs.Title.{Key, findRow, desktopEntry}
-use Rattle.rows.specs.Find.{toldOf}
+use Rattle.rows.specs.Find.{foundOf}
 use Rattle.rows.specs.declared.Found.the-variants as found
 use Rattle.rows.proofs.Told.{told-nothing}
 use Rattle.command.specs.Words.{words}
 use Rattle.command.specs.Command.{Argument, hasPiece, isItem, isName, isIcon, wordsFault, argumentsIn, readCommand}
 use Rattle.command.specs.Step.{codesIn}
 use Rattle.command.specs.declared.Seen.{Seen}
-use Rattle.exec.specs.Run.{runOf, expandedAll, runsOf, runs}
+use Rattle.run.specs.Run.{runOf, expandedAll, runsOf, runs}
 use Rattle.exec.specs.Expand.{nameText, iconText, runArguments, groupArguments, askedItems, expand}
-use Rattle.exec.specs.Step.{putOf, itemsIn, ReadTo}
+use Rattle.run.specs.Step.{putOf, itemsIn}
+use Rattle.exec.specs.Step.{ReadTo}
 use Rattle.exec.proofs.Values.{read-refuses, read-le, Value, value-short}
 use Rattle.exec.proofs.Asking.{Granted}
 
@@ -60,14 +61,14 @@ module _ (args : List Argument) (rs : List Row) (group locale location : List �
   run-past t = rw (← item-seen, ← k, t)
 
   module _ (t : ltb run (runsOf (seen .item) count) ≡ true) where
-    pub run-unnamed : {s u : List ℕ} {f : Fault} → ReadTo (nameText rs locale (seen .name)) s (written.Refused f) u → answer ≡ refused f
+    pub run-no-name : {s u : List ℕ} {f : Fault} → ReadTo (nameText rs locale (seen .name)) s (written.Refused f) u → answer ≡ refused f
     unfolding runArguments runs
-    run-unnamed w = rw (← item-seen, ← k, t, ← name-seen, read-refuses (nameText rs locale (seen .name)) w)
+    run-no-name w = rw (← item-seen, ← k, t, ← name-seen, read-refuses (nameText rs locale (seen .name)) w)
 
     module _ {name : List ℕ} (n : nameText rs locale (seen .name) ≡ given name) where
-      pub run-unpictured : {s u : List ℕ} {f : Fault} → ReadTo (iconText rs group locale (seen .icon)) s (written.Refused f) u → answer ≡ refused f
+      pub run-no-icon : {s u : List ℕ} {f : Fault} → ReadTo (iconText rs group locale (seen .icon)) s (written.Refused f) u → answer ≡ refused f
       unfolding runArguments runs
-      run-unpictured w = rw (← item-seen, ← k, t, ← name-seen, n, ← icon-seen, read-refuses (iconText rs group locale (seen .icon)) w)
+      run-no-icon w = rw (← item-seen, ← k, t, ← name-seen, n, ← icon-seen, read-refuses (iconText rs group locale (seen .icon)) w)
 
       pub run-given : {icon : List ℕ} → iconText rs group locale (seen .icon) ≡ given icon → answer ≡ given (expandedAll (runOf (putOf (getD items run []) name location) items icon) args)
       unfolding runArguments runs
@@ -94,7 +95,7 @@ module _ (file group locale location : List ℕ) (items : List (List ℕ)) (run 
   abbrev execRow : Option Row
   execRow = findRow (readRows file) (Key group (ascii "Exec"))
 
-  pub group-missing : toldOf execRow ≡ found.Nothing → ofGroup ≡ refused Missing
+  pub group-missing : foundOf execRow ≡ found.Nothing → ofGroup ≡ refused Missing
   unfolding groupArguments
   group-missing i = rw (told-nothing execRow i)
 

@@ -1,8 +1,3 @@
-pub mod Spending
-pub mod Listing
-pub mod Arguments
-pub mod Filling
-pub mod Writing
 pub mod Values
 pub mod Asking
 pub mod Expanding

@@ -17,14 +17,14 @@ use Rattle.fault.specs.declared.Fault.{Fault}
 use Rattle.fault.specs.declared.Fault.the-variants.{BadEscape, Missing}
 use Rattle.fault.specs.Answer.{Answer, given, refused, _>>=_, some-or, then}
 use Rattle.text.specs.Escape.{escape, textFrom, readText}
-use Rattle.text.specs.Output.{answered, told, held}
+use Rattle.text.specs.Output.{answered, writtenLength, held}
 use Rattle.text.specs.Step.{textOf}
 use Rattle.text.specs.declared.Escapes.{Escapes}
 use Rattle.text.specs.declared.Written.{Written}
 use Rattle.text.specs.declared.Written.the-variants as written
 use Rattle.rows.specs.Rows.{Row, readRows, rawValue}
 use Rattle.rows.specs.Title.{Title, findRow, desktopEntry}
-use Rattle.rows.specs.Find.{toldOf}
+use Rattle.rows.specs.Find.{foundOf}
 use Rattle.rows.specs.declared.Found.the-variants as found
 use Rattle.rows.proofs.Told.{Told, told-row}
 use Rattle.choice.specs.Locale.{chosen}
@@ -66,7 +66,7 @@ read-le raw = text-le _ raw false 0
 -- ---- a text that was read to a buffer
 
 -- where there is room, the whole text is told and held
-pub read-room : (a : Answer (List ℕ)) (s : List ℕ) {r : Written} {t : List ℕ} → length (textOf a) ≤ length s → (answered r ≡ told a s) × (t ≡ held a s) → ReadTo a s r t
+pub read-room : (a : Answer (List ℕ)) (s : List ℕ) {r : Written} {t : List ℕ} → length (textOf a) ≤ length s → (answered r ≡ writtenLength a s) × (t ≡ held a s) → ReadTo a s r t
 read-room (given x) s h p = record { tells = p .0 ∙ rw (le-leb (length x) (length s) h); is = p .1 ∙ rw (le-leb (length x) (length s) h); fits = h }
 read-room (refused f) s h p = record { tells = p .0; is = p .1; fits = h }
 
@@ -117,7 +117,7 @@ row-value file t r i w =
       bytes = rw (w .end-is, w .value-is) (row-stands file t r i);
     }
 
-pub key-value : (file : List ℕ) (t : Title) {n p e v : ℕ} → toldOf (findRow (readRows file) t) ≡ found.Row n p e v → Value (findRow (readRows file) t) file v e
+pub key-value : (file : List ℕ) (t : Title) {n p e v : ℕ} → foundOf (findRow (readRows file) t) ≡ found.Row n p e v → Value (findRow (readRows file) t) file v e
 key-value file t {n} {p} {e} {v} i =
     let a = told-row (findRow (readRows file) t) n p e v i in
     row-value file t (a .0) (a .1) (a .2)

@@ -4,11 +4,12 @@ use mathlib.Core.Bool.{Bool, true, false, not, _&&_}
 use mathlib.Core.List.{List, []}
 use lib.ListN.{length, getD}
 use lib.Dec.{eqb, leb, ltb}
+use Rattle.base.specs.Bounds.{listMost, locationMost}
 use Rattle.base.specs.Choice.{maybe}
 use Rattle.base.specs.Lists.{ascii, any, all}
 use Rattle.fault.specs.declared.Fault.the-variants.{BadArgument, Missing, UnfitText, Damaged}
 use Rattle.fault.specs.Answer.{Answer, given, _>>=_, need, some-or}
-use Rattle.record.specs.Record.{readList, listMost, listOf}
+use Rattle.record.specs.Record.{readList, listOf}
 use Rattle.text.specs.Escape.{readText}
 use Rattle.line.specs.Form.{localeForm}
 use Rattle.rows.specs.Rows.{Row, readRows, rawValue}
@@ -16,7 +17,7 @@ use Rattle.rows.specs.Title.{Key, findRow, desktopEntry}
 use Rattle.wellformed.specs.Check.{check}
 use Rattle.choice.specs.Locale.{chosen}
 use Rattle.command.specs.Command.{Argument, readCommand, hasPiece, isName, isIcon}
-use Rattle.exec.specs.Run.{runOf, expandedAll, runs}
+use Rattle.run.specs.Run.{runOf, expandedAll, runs}
 
 -- no zero byte
 unfoldable pub noZero : List ℕ → Bool
@@ -26,9 +27,9 @@ noZero s = all (λ b. not (eqb b 0)) s
 unfoldable pub fitItem : List ℕ → Bool
 fitItem s = not (eqb (length s) 0) && noZero s
 
--- a location: at most 4,096 bytes, no zero byte
+-- a location: not too long, no zero byte
 unfoldable pub fitLocation : List ℕ → Bool
-fitLocation s = leb (length s) 4096 && noZero s
+fitLocation s = leb (length s) locationMost && noZero s
 
 -- the items of the list, where file, list, locale, items and location are in order: 1 to 6, 14, 7, 10
 unfoldable pub askedItems : List ℕ → List ℕ → List ℕ → List ℕ → Answer (List (List ℕ))

@@ -2,11 +2,12 @@
 use record::Front;
 ghost use mathlib.Core.Path.{_≡_};
 ghost use mathlib.Core.Bool.{true};
+ghost use Rattle.base.specs.Bounds.{listMost};
 ghost use Rattle.base.specs.Choice.{there};
 ghost use Rattle.base.specs.Lists.{all};
-ghost use Rattle.record.specs.Record.{readList, listMost};
+ghost use Rattle.record.specs.Record.{readList};
 ghost use Rattle.exec.specs.Expand as spec;
-ghost use Rattle.exec.specs.Step.{itemsIn};
+ghost use Rattle.run.specs.Step.{itemsIn};
 
 // Whether no byte is zero.
 fn no_zero(s: &[u8]) -> bool
@@ -36,7 +37,7 @@ fn is_fit_item(s: &[u8]) -> bool
 pub fn is_fit_location(s: &[u8]) -> bool
     ensures { λ r. ⌜ r ≡ spec.fitLocation (now (s .entry)) ⌝ }
 {
-    if 4096 < s.len() {
+    if base::LOCATION_MOST < s.len() {
         return false;
     }
     no_zero(s)

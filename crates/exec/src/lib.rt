@@ -1,8 +1,6 @@
-// The expansion of Exec: what it is asked, a run's arguments, and their records in a lent output.
+// The expansion of Exec: what it is asked, the texts that it reads, and its runs.
 mod asked; // asked.rt: the list and the location
-mod measure; // measure.rt: how much room a run's records take
 mod texts; // texts.rt: Exec, Name and Icon
-mod write; // write.rt: the records of a run
 
 use command::Checked;
 use command::Seen;
@@ -19,18 +17,20 @@ ghost use mathlib.Core.List.{[]};
 ghost use Prim.Native.Nat.{_≤_};
 ghost use lib.ListN.{length, getD};
 ghost use lib.Dec.{ltb};
+ghost use Rattle.base.specs.Bounds.{fileMost, listMost};
 ghost use Rattle.base.specs.Choice.{there};
-ghost use Rattle.fault.specs.Answer.{given, then};
-ghost use Rattle.record.specs.Record.{readList, listMost, listOf};
-ghost use Rattle.text.specs.Output.{answered, told, held};
+ghost use Rattle.fault.specs.Answer.{then};
+ghost use Rattle.record.specs.Record.{readList, listOf};
+ghost use Rattle.text.specs.Output.{answered, writtenLength, held};
 ghost use Rattle.line.specs.Form.{localeForm};
 ghost use Rattle.rows.specs.Rows.{readRows};
 ghost use Rattle.rows.specs.Find.{noneBad};
 ghost use Rattle.command.specs.Command.{argumentsIn};
 ghost use Rattle.command.specs.Step.{codesIn};
-ghost use Rattle.exec.specs.Run as run;
+ghost use Rattle.run.specs.Run as run;
 ghost use Rattle.exec.specs.Expand as spec;
-ghost use Rattle.exec.specs.Step as step;
+ghost use Rattle.run.specs.Step.{itemsIn};
+ghost use Rattle.exec.specs.Step.{askedAs};
 
 // What was asked: how many items there are, or the refusal.
 pub enum Counted {
@@ -40,12 +40,12 @@ pub enum Counted {
 
 // The file, the list, the locale, the items and the location: 1 to 6, 14, 7, 10.
 pub fn ask(file: &[u8], locale: &[u8], location: &[u8], list: &[u8]) -> Counted
-    ensures { λ r. ⌜ step.askedAs r ≡ then length (spec.askedItems (now (file .entry)) (now (locale .entry)) (now (location .entry)) (now (list .entry))) ⌝ }
+    ensures { λ r. ⌜ askedAs r ≡ then length (spec.askedItems (now (file .entry)) (now (locale .entry)) (now (location .entry)) (now (list .entry))) ⌝ }
 {
     match wellformed::check(file) {
         FileChecked::Refused(f) => Counted::Refused(f),
         FileChecked::Sound => {
-            let Filled::Records(n) = record::count(list, 2, 65536) else {
+            let Filled::Records(n) = record::count(list, 2, base::LIST_MOST) else {
                 return Counted::Refused(Fault::Damaged);
             };
             if line::form::is_locale(locale) {
@@ -78,44 +78,12 @@ fn in_runs(n: usize, item: bool, count: usize) -> bool
 // The item of a run; empty if there is none.
 fn item_at(list: &[u8], n: usize) -> &[u8]
     requires { ⌜ there (readList 2 listMost (now list)) ≡ true ⌝ }
-    ensures { λ r. ⌜ now r ≡ getD (step.itemsIn (now (list .entry))) n [] ⌝ }
+    ensures { λ r. ⌜ now r ≡ getD (itemsIn (now (list .entry))) n [] ⌝ }
 {
     let Bounds::Body { from, to } = record::nth(list, n) else {
         return &list[..0];
     };
     &list[from..to]
-}
-
-// The records of a run's arguments, if there is room for them: 11.
-fn write_run(
-    exec: &[u8],
-    item: &[u8],
-    list: &[u8],
-    name: &[u8],
-    icon: &[u8],
-    location: &[u8],
-    out: &mut [u8],
-) -> Written
-    requires { ⌜ (length (now exec) ≤ 32768) × (there (readList 2 listMost (now list)) ≡ true) ⌝ }
-    ensures answer { λ r. ⌜ answered r ≡ told (given (listOf 3 (run.expandedAll
-        (run.runOf (step.putOf (now (item .entry)) (now (name .entry)) (now (location .entry))) (step.itemsIn (now (list .entry))) (now (icon .entry)))
-        (argumentsIn (now (exec .entry)))))) (now (out .entry)) ⌝ }
-    ensures output { λ _. ⌜ now (out .exit) ≡ held (given (listOf 3 (run.expandedAll
-        (run.runOf (step.putOf (now (item .entry)) (now (name .entry)) (now (location .entry))) (step.itemsIn (now (list .entry))) (now (icon .entry)))
-        (argumentsIn (now (exec .entry)))))) (now (out .entry)) ⌝ }
-{
-    match measure::run_left(exec, item, list, name, icon, location, out.len()) {
-        Left::Short => Written::Refused(Fault::NoRoom),
-        Left::Bytes(_) => Written::Bytes(write::put_run(
-            out,
-            exec,
-            item,
-            list,
-            name,
-            icon,
-            location,
-        )),
-    }
 }
 
 // A run of a command, with the Icon of a group: 8, then Name's refusal, then Icon's, then 11.
@@ -131,26 +99,26 @@ fn run_command(
     run: usize,
     out: &mut [u8],
 ) -> Written
-    requires { ⌜ (length (now exec) ≤ 32768) × (seen ≡ codesIn (argumentsIn (now exec))) × (noneBad (now file) ≡ true) × (length (now file) ≤ 32768)
-        × (there (readList 2 listMost (now list)) ≡ true) × (count ≡ length (step.itemsIn (now list))) × (localeForm (now locale) ≡ true) ⌝ }
-    ensures answer { λ r. ⌜ answered r ≡ told (then (listOf 3) (spec.runArguments (argumentsIn (now (exec .entry))) (readRows (now (file .entry))) (now (group .entry))
-        (now (locale .entry)) (now (location .entry)) (step.itemsIn (now (list .entry))) run)) (now (out .entry)) ⌝ }
+    requires { ⌜ (length (now exec) ≤ fileMost) × (seen ≡ codesIn (argumentsIn (now exec))) × (noneBad (now file) ≡ true) × (length (now file) ≤ fileMost)
+        × (there (readList 2 listMost (now list)) ≡ true) × (count ≡ length (itemsIn (now list))) × (localeForm (now locale) ≡ true) ⌝ }
+    ensures answer { λ r. ⌜ answered r ≡ writtenLength (then (listOf 3) (spec.runArguments (argumentsIn (now (exec .entry))) (readRows (now (file .entry))) (now (group .entry))
+        (now (locale .entry)) (now (location .entry)) (itemsIn (now (list .entry))) run)) (now (out .entry)) ⌝ }
     ensures output { λ _. ⌜ now (out .exit) ≡ held (then (listOf 3) (spec.runArguments (argumentsIn (now (exec .entry))) (readRows (now (file .entry))) (now (group .entry))
-        (now (locale .entry)) (now (location .entry)) (step.itemsIn (now (list .entry))) run)) (now (out .entry)) ⌝ }
+        (now (locale .entry)) (now (location .entry)) (itemsIn (now (list .entry))) run)) (now (out .entry)) ⌝ }
 {
     if in_runs(run, seen.item, count) {
-        let mut name = [0u8; 32768];
-        let named = texts::name_text(file, locale, seen.name, &mut name);
-        let Written::Bytes(name_end) = named else {
-            return named;
+        let mut name = [0u8; base::FILE_MOST];
+        let name_read = texts::name_text(file, locale, seen.name, &mut name);
+        let Written::Bytes(name_end) = name_read else {
+            return name_read;
         };
-        let mut icon = [0u8; 32768];
-        let pictured = texts::icon_text(file, group, locale, seen.icon, &mut icon);
-        let Written::Bytes(icon_end) = pictured else {
-            return pictured;
+        let mut icon = [0u8; base::FILE_MOST];
+        let icon_read = texts::icon_text(file, group, locale, seen.icon, &mut icon);
+        let Written::Bytes(icon_end) = icon_read else {
+            return icon_read;
         };
         let item = item_at(list, run);
-        return write_run(
+        return run::write_run(
             exec,
             item,
             list,
@@ -174,12 +142,12 @@ pub fn expand_group(
     run: usize,
     out: &mut [u8],
 ) -> Written
-    requires { ⌜ (noneBad (now file) ≡ true) × (length (now file) ≤ 32768) × (there (readList 2 listMost (now list)) ≡ true) × (count ≡ length (step.itemsIn (now list)))
+    requires { ⌜ (noneBad (now file) ≡ true) × (length (now file) ≤ fileMost) × (there (readList 2 listMost (now list)) ≡ true) × (count ≡ length (itemsIn (now list)))
         × (localeForm (now locale) ≡ true) ⌝ }
-    ensures answer { λ r. ⌜ answered r ≡ told (then (listOf 3) (spec.groupArguments (readRows (now (file .entry))) (now (group .entry))
-        (now (locale .entry)) (now (location .entry)) (step.itemsIn (now (list .entry))) run)) (now (out .entry)) ⌝ }
+    ensures answer { λ r. ⌜ answered r ≡ writtenLength (then (listOf 3) (spec.groupArguments (readRows (now (file .entry))) (now (group .entry))
+        (now (locale .entry)) (now (location .entry)) (itemsIn (now (list .entry))) run)) (now (out .entry)) ⌝ }
     ensures output { λ _. ⌜ now (out .exit) ≡ held (then (listOf 3) (spec.groupArguments (readRows (now (file .entry))) (now (group .entry))
-        (now (locale .entry)) (now (location .entry)) (step.itemsIn (now (list .entry))) run)) (now (out .entry)) ⌝ }
+        (now (locale .entry)) (now (location .entry)) (itemsIn (now (list .entry))) run)) (now (out .entry)) ⌝ }
 {
     let Found::Row {
         line: _,
@@ -190,7 +158,7 @@ pub fn expand_group(
     else {
         return Written::Refused(Fault::Missing);
     };
-    let mut exec = [0u8; 32768];
+    let mut exec = [0u8; base::FILE_MOST];
     let read = texts::read_whole(&file[value..end], &mut exec);
     let Written::Bytes(exec_end) = read else {
         return read;
@@ -222,7 +190,7 @@ pub fn expand(
     run: usize,
     out: &mut [u8],
 ) -> Written
-    ensures answer { λ r. ⌜ answered r ≡ told (spec.expand (now (file .entry)) (now (locale .entry)) (now (location .entry)) (now (list .entry)) run) (now (out .entry)) ⌝ }
+    ensures answer { λ r. ⌜ answered r ≡ writtenLength (spec.expand (now (file .entry)) (now (locale .entry)) (now (location .entry)) (now (list .entry)) run) (now (out .entry)) ⌝ }
     ensures output { λ _. ⌜ now (out .exit) ≡ held (spec.expand (now (file .entry)) (now (locale .entry)) (now (location .entry)) (now (list .entry)) run) (now (out .entry)) ⌝ }
 {
     match ask(file, locale, location, list) {

@@ -5,6 +5,7 @@ ghost use mathlib.Core.Path.{_≡_};
 ghost use mathlib.Core.Bool.{true};
 ghost use Prim.Native.Nat.{_≤_};
 ghost use lib.ListN.{length};
+ghost use Rattle.base.specs.Bounds.{fileMost};
 ghost use Rattle.fault.specs.Answer.{then};
 ghost use Rattle.text.specs.Escape.{readText};
 ghost use Rattle.text.specs.Output.{answered};
@@ -35,7 +36,7 @@ fn refusal_of(e: Ends) -> Written
 
 // The text of Name by locale, where it is wanted.
 pub fn name_text(file: &[u8], locale: &[u8], wanted: bool, out: &mut [u8]) -> Written
-    requires { ⌜ (noneBad (now file) ≡ true) × (length (now file) ≤ 32768) × (32768 ≤ length (now out)) × (localeForm (now locale) ≡ true) ⌝ }
+    requires { ⌜ (noneBad (now file) ≡ true) × (length (now file) ≤ fileMost) × (fileMost ≤ length (now out)) × (localeForm (now locale) ≡ true) ⌝ }
     ensures { λ r. ⌜ ReadTo (spec.nameText (readRows (now (file .entry))) (now (locale .entry)) wanted) (now (out .entry)) r (now (out .exit)) ⌝ }
 {
     if wanted {
@@ -50,7 +51,7 @@ pub fn name_text(file: &[u8], locale: &[u8], wanted: bool, out: &mut [u8]) -> Wr
 
 // The text of a group's Icon by locale, where it is wanted; a missing one is none. In a file already checked the choice is refused with 8 only.
 pub fn icon_text(file: &[u8], group: &[u8], locale: &[u8], wanted: bool, out: &mut [u8]) -> Written
-    requires { ⌜ (noneBad (now file) ≡ true) × (length (now file) ≤ 32768) × (32768 ≤ length (now out)) × (localeForm (now locale) ≡ true) ⌝ }
+    requires { ⌜ (noneBad (now file) ≡ true) × (length (now file) ≤ fileMost) × (fileMost ≤ length (now out)) × (localeForm (now locale) ≡ true) ⌝ }
     ensures { λ r. ⌜ ReadTo (spec.iconText (readRows (now (file .entry))) (now (group .entry)) (now (locale .entry)) wanted) (now (out .entry)) r (now (out .exit)) ⌝ }
 {
     if wanted {

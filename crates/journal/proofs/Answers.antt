@@ -14,7 +14,7 @@ use Rattle.splice.specs.Edit.{Edit}
 use Rattle.journal.specs.declared.Next.{Next}
 use Rattle.journal.specs.declared.Next.the-variants as next
 use Rattle.journal.specs.Journal.{Authored, editLength, readJournal, nextOf}
-use Rattle.journal.specs.Walk.{endingAt, startingAt, answered, latest, waiting, Within, editAt, Reads, Latest, Follows, Parted}
+use Rattle.journal.specs.Walk.{endingAt, startingAt, placed, latest, waiting, Within, editAt, Reads, Latest, Follows, Parted}
 use Rattle.journal.proofs.Read.{no-edit}
 use Rattle.journal.proofs.Records.{front-least}
 use Rattle.journal.proofs.Walking.{authored, authored-length}
@@ -40,11 +40,11 @@ module _ {s : List ℕ} {standing last : ℕ} (p : Parted s standing last) where
       go none l = refl
       go (some e) l = absurd (omega (arith, z, l .1, front-least (e .author)))
 
-  pub latest-read : (standing ≡ 0 → ⊥) → (r : Next) → Reads s last r → (answered s r ≡ latest s standing) × Within (length s) r
+  pub latest-read : (standing ≡ 0 → ⊥) → (r : Next) → Reads s last r → (placed s r ≡ latest s standing) × Within (length s) r
   latest-read n r q = rw (p .reads) (go (nextOf (p .journal .stand)) (p .latest-at) r q)
     where
       go : (o : Option (Authored Edit)) → Latest s last standing o → (r : Next) → Reads s last r
-          → (answered s r ≡ then (endingAt standing) (some-or o NothingLeft)) × Within (length s) r
+          → (placed s r ≡ then (endingAt standing) (some-or o NothingLeft)) × Within (length s) r
       go none l r q = absurd (n l)
       go (some e) l next.Damaged q = no (cc)
       go (some e) l next.Nothing q = absurd (edit-inside s last (l .0) q)
@@ -57,11 +57,11 @@ module _ {s : List ℕ} {standing last : ℕ} (p : Parted s standing last) where
           let m : start ≡ standing - editLength e = omega (arith, q .0, l .1) in
           (ap given (λ i. record { start = m i; end = k i; edit = z i .what }), (w .old-bytes, w .new-bytes, w .inside))
 
-  pub waiting-read : (r : Next) → Reads s standing r → (answered s r ≡ waiting s standing) × Within (length s) r
+  pub waiting-read : (r : Next) → Reads s standing r → (placed s r ≡ waiting s standing) × Within (length s) r
   waiting-read r q = rw (p .reads) (go (nextOf (p .journal .wait)) (p .next-at) r q)
     where
       go : (o : Option (Authored Edit)) → Follows s standing o → (r : Next) → Reads s standing r
-          → (answered s r ≡ then (startingAt standing) (some-or o NothingLeft)) × Within (length s) r
+          → (placed s r ≡ then (startingAt standing) (some-or o NothingLeft)) × Within (length s) r
       go none l next.Damaged q = absurd (omega arith)
       go none l next.Nothing q = (refl, tt)
       go none l (next.Edit start place old new end) q = absurd (omega (arith, front-least (q .1 .author), q .1 .head, q .1 .old-bytes, q .1 .new-bytes, q .1 .inside))

@@ -11,9 +11,8 @@ use lib.Dec.{eqb, leb}
 use Rattle.base.specs.Choice.{pick, maybe}
 use Rattle.base.specs.Lists.{part}
 use Rattle.base.proofs.Lists.{length-part}
-use Rattle.base.proofs.Scan.{done}
 use Rattle.base.proofs.Tests.{no, by-test, mapped}
-use Rattle.record.specs.Number.{numberOf}
+use Rattle.record.specs.Number.{numberIn}
 use Rattle.record.specs.Record.{Rec, recordLength, lengthAt, recordAt, whole}
 use Rattle.record.proofs.Place.{whole-bounds}
 use Rattle.record.specs.Walk.{readAt}
@@ -31,8 +30,8 @@ picked false h = no (cc)
 in-length : (s : List ℕ) {e : Edit} → editIn s ≡ some e → 12 + length (e .old) + length (e .new) ≡ length s
 unfolding editIn
 in-length s h =
-    let old : ℕ = numberOf (part 4 8 s) in
-    let new : ℕ = numberOf (part 8 12 s) in
+    let old : ℕ = numberIn (part 4 8 s) in
+    let new : ℕ = numberIn (part 8 12 s) in
     let p = picked (eqb (length s) (12 + old + new)) h in
     let n : length s ≡ 12 + old + new = eqb-true _ _ (p .0) in
     rw (← p .1, length-drop) (omega (arith, length-part 12 (12 + old) s (omega arith)))
@@ -43,7 +42,7 @@ read-length r {e} h =
     by-test (eqb (r .kind) 1)
     (λ t. let m = mapped (by NoPerson) (editIn (r .body)) (rw t at h) in rw (← m .2) (omega (arith, in-length (r .body) (m .1))))
     (λ t. by-test (eqb (r .kind) 4)
-    (λ u. let m = mapped (by (Person (numberOf (take 2 (r .body))))) (editIn (drop 2 (r .body))) (rw (t, u) at h) in
+    (λ u. let m = mapped (by (Person (numberIn (take 2 (r .body))))) (editIn (drop 2 (r .body))) (rw (t, u) at h) in
     rw (← m .2) (omega (arith, in-length (drop 2 (r .body)) (m .1), length-drop 2 (r .body))))
     (λ u. let z : none ≡ some e = rw (t, u) at h in no (cc)))
 

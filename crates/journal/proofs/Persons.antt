@@ -16,7 +16,7 @@ use Rattle.fault.specs.declared.Fault.the-variants.{Damaged, NothingLeft}
 use Rattle.fault.specs.Answer.{Answer, given, refused, accepted}
 use Rattle.fault.proofs.Answers.{accepted-given}
 use Rattle.record.specs.declared.Bounds.the-variants as bounds
-use Rattle.record.specs.Number.{numberOf}
+use Rattle.record.specs.Number.{numberIn}
 use Rattle.record.specs.Record.{Rec, recordLength, cut, readEach}
 use Rattle.record.specs.Walk.{boundsFrom, nthOf, readAt}
 use Rattle.record.proofs.Place.{Stands}
@@ -82,7 +82,7 @@ module _ {s : List ℕ} {es : List (Authored Edit)} {n from : ℕ} (f : Found s 
   pub kind-inside : (2 ≤ from) × (from - 2 + 2 ≤ length s)
   kind-inside = (omega (arith, f .begins), omega (arith, f .begins, f .stands .head-inside, f .stands .inside))
 
-  pub kind-there : numberOf (take 2 (drop (from - 2) s)) ≡ f .kind
+  pub kind-there : numberIn (take 2 (drop (from - 2) s)) ≡ f .kind
   kind-there =
       let z : from - 2 ≡ f .at + 4 = omega (arith, f .begins) in
       rw (z, ← drop-drop 4 (f .at) s) (sym (f .stands .has-kind))
@@ -97,10 +97,10 @@ module _ {s : List ℕ} {es : List (Authored Edit)} {n from : ℕ} (f : Found s 
   person-is : {m : ℕ} → m ≡ personOf (f .edit .author) → given m ≡ personIn es n
   person-is h = rw (f .is, h)
 
-  pub person-four : f .kind ≡ 4 → given (numberOf (take 2 (drop from s))) ≡ personIn es n
+  pub person-four : f .kind ≡ 4 → given (numberIn (take 2 (drop from s))) ≡ personIn es n
   person-four k =
       let p = edit-person (f .stands) k (omega (arith, f .begins, person-inside k)) in
-      let m = mapped (by (Person (numberOf (take 2 (drop (f .at + 6) s))))) (editIn (part (f .at + 8) (f .end) s)) (sym p ∙ f .holds) in
+      let m = mapped (by (Person (numberIn (take 2 (drop (f .at + 6) s))))) (editIn (part (f .at + 8) (f .end) s)) (sym p ∙ f .holds) in
       person-is (rw (← m .2, f .begins))
 
   pub person-other : (f .kind ≡ 4 → ⊥) → given 0 ≡ personIn es n

@@ -10,7 +10,7 @@ use lib.ListN.{length, take, drop, length-drop}
 use Rattle.base.specs.Lists.{part}
 use Rattle.base.proofs.Lists.{length-part}
 use Rattle.base.proofs.Parts.{drop-part, take-part, part-part}
-use Rattle.record.specs.Number.{numberOf}
+use Rattle.record.specs.Number.{numberIn}
 use Rattle.record.specs.Record.{Rec, whole}
 use Rattle.record.proofs.Place.{Stands}
 use Rattle.record.proofs.Cut.{body-at}
@@ -33,7 +33,7 @@ module _ (r : Rec) where
   unfolding readEdit
   read-bare k = rw (eq-eqb _ _ k)
 
-  read-person : r .kind ≡ 4 → readEdit r ≡ Option·map (by (Person (numberOf (take 2 (r .body))))) (editIn (drop 2 (r .body)))
+  read-person : r .kind ≡ 4 → readEdit r ≡ Option·map (by (Person (numberIn (take 2 (r .body))))) (editIn (drop 2 (r .body)))
   unfolding readEdit
   read-person k = rw k
 
@@ -41,12 +41,12 @@ module _ (r : Rec) where
 
 module _ (s : List ℕ) where
   -- another length than its numbers say
-  in-unlike : (length s ≡ 12 + numberOf (part 4 8 s) + numberOf (part 8 12 s) → ⊥) → editIn s ≡ none
+  in-unlike : (length s ≡ 12 + numberIn (part 4 8 s) + numberIn (part 8 12 s) → ⊥) → editIn s ≡ none
   unfolding editIn
   in-unlike n = rw (ne-eqb _ _ n)
 
-  in-this : {old new : ℕ} → numberOf (part 4 8 s) ≡ old → numberOf (part 8 12 s) ≡ new → length s ≡ 12 + old + new
-      → editIn s ≡ some (record { place = numberOf (take 4 s); old = part 12 (12 + old) s; new = drop (12 + old) s })
+  in-this : {old new : ℕ} → numberIn (part 4 8 s) ≡ old → numberIn (part 8 12 s) ≡ new → length s ≡ 12 + old + new
+      → editIn s ≡ some (record { place = numberIn (take 4 s); old = part 12 (12 + old) s; new = drop (12 + old) s })
   unfolding editIn
   in-this o n l = rw (o, n, eq-eqb _ _ l)
 
@@ -62,21 +62,21 @@ module _ (s : List ℕ) (from end : ℕ) (a : from ≤ end) (b : end ≤ length 
   pub bytes-short : end - from < 12 → editIn (part from end s) ≡ none
   bytes-short h = in-unlike (part from end s) (λ e. omega (arith, length-bytes, e))
 
-  module _ {old new : ℕ} (long : 12 ≤ end - from) (o : old ≡ numberOf (take 4 (drop (from + 4) s))) (n : new ≡ numberOf (take 4 (drop (from + 8) s))) where
-    old-at : numberOf (part 4 8 (part from end s)) ≡ old
-    old-at = ap numberOf (four-at 4 (from + 4) refl (omega arith)) ∙ sym o
+  module _ {old new : ℕ} (long : 12 ≤ end - from) (o : old ≡ numberIn (take 4 (drop (from + 4) s))) (n : new ≡ numberIn (take 4 (drop (from + 8) s))) where
+    old-at : numberIn (part 4 8 (part from end s)) ≡ old
+    old-at = ap numberIn (four-at 4 (from + 4) refl (omega arith)) ∙ sym o
 
-    new-at : numberOf (part 8 12 (part from end s)) ≡ new
-    new-at = ap numberOf (four-at 8 (from + 8) refl (omega arith)) ∙ sym n
+    new-at : numberIn (part 8 12 (part from end s)) ≡ new
+    new-at = ap numberIn (four-at 8 (from + 8) refl (omega arith)) ∙ sym n
 
     pub bytes-unlike : (end - from ≡ 12 + old + new → ⊥) → editIn (part from end s) ≡ none
     bytes-unlike d = in-unlike (part from end s) (λ e. d (omega (arith, length-bytes, e, old-at, new-at)))
 
-    pub bytes-read : {place : ℕ} → end - from ≡ 12 + old + new → place ≡ numberOf (take 4 (drop from s))
+    pub bytes-read : {place : ℕ} → end - from ≡ 12 + old + new → place ≡ numberIn (take 4 (drop from s))
         → editIn (part from end s) ≡ some (record { place = place; old = part (from + 12) (from + 12 + old) s; new = part (from + 12 + old) end s })
     bytes-read l p =
         let z : from ≡ from + 0 = omega arith in
-        let q = ap numberOf (four-at 0 from z (omega arith)) ∙ sym p in
+        let q = ap numberIn (four-at 0 from z (omega arith)) ∙ sym p in
         let x = part-part 12 (12 + old) from end s (omega arith) in
         let y = drop-part (12 + old) from end s in
         let m : from + (12 + old) ≡ from + 12 + old = omega arith in
@@ -99,7 +99,7 @@ module _ {s : List ℕ} {at kind end : ℕ} (r : Stands s at kind end) where
   pub edit-bare : kind ≡ 1 → editAt s at ≡ Option·map (by NoPerson) (editIn (part (at + 6) end s))
   edit-bare k = edit-there ∙ read-bare _ k
 
-  pub edit-person : kind ≡ 4 → at + 8 ≤ end → editAt s at ≡ Option·map (by (Person (numberOf (take 2 (drop (at + 6) s))))) (editIn (part (at + 8) end s))
+  pub edit-person : kind ≡ 4 → at + 8 ≤ end → editAt s at ≡ Option·map (by (Person (numberIn (take 2 (drop (at + 6) s))))) (editIn (part (at + 8) end s))
   edit-person k h =
       let z : at + 6 + 2 ≡ at + 8 = omega arith in
       edit-there ∙ read-person _ k ∙ rw (take-part 2 (at + 6) end s (omega arith), drop-part 2 (at + 6) end s, z)
@@ -109,7 +109,7 @@ module _ {s : List ℕ} {at kind end : ℕ} (r : Stands s at kind end) where
   edit-stub k h =
       let b : List ℕ = part (at + 6) end s in
       let n = in-unlike (drop 2 b) (λ e. omega (arith, e, length-drop 2 b, length-part (at + 6) end s (r .inside), r .head-inside)) in
-      edit-there ∙ read-person _ k ∙ ap (Option·map (by (Person (numberOf (take 2 b))))) n
+      edit-there ∙ read-person _ k ∙ ap (Option·map (by (Person (numberIn (take 2 b))))) n
 
   -- what is read of the edit's bytes, by its author
   pub reads-by : (author : Author) (from : ℕ) → editAt s at ≡ Option·map (by author) (editIn (part from end s)) → from + 12 ≡ at + frontLength author

@@ -9,7 +9,7 @@ use lib.Seq.{take-append-seam, drop-append-seam, take-at, drop-at}
 use borrow.Author.Tests.{eq-eqb, ne-eqb, le-leb}
 use Rattle.base.specs.Lists.{joined}
 use Rattle.base.proofs.Lists.{map-append}
-use Rattle.record.specs.Number.{littleEndian, numberOf}
+use Rattle.record.specs.Number.{littleEndian, numberIn}
 use Rattle.record.specs.Record.{recordBytes, recordLength, listBytes, cut, readEach, readRecords}
 use Rattle.record.proofs.Numbers.{fits-two, fits-four, number-back, length-number}
 use Rattle.record.proofs.Sizes.{length-record, list-cons, list-append}
@@ -33,9 +33,9 @@ module _ (e : Edit) where
   bytes-back : e .place ≤ 65536 → length (e .old) + length (e .new) ≤ 65536 → editIn (editBytes e) ≡ some e
   unfolding editIn editBytes littleEndian
   bytes-back s l =
-      let p : numberOf (littleEndian 4 (e .place)) ≡ e .place = number-back 4 (e .place) (fits-four (e .place) (omega arith)) in
-      let o : numberOf (littleEndian 4 (length (e .old))) ≡ length (e .old) = number-back 4 (length (e .old)) (fits-four (length (e .old)) (omega arith)) in
-      let n : numberOf (littleEndian 4 (length (e .new))) ≡ length (e .new) = number-back 4 (length (e .new)) (fits-four (length (e .new)) (omega arith)) in
+      let p : numberIn (littleEndian 4 (e .place)) ≡ e .place = number-back 4 (e .place) (fits-four (e .place) (omega arith)) in
+      let o : numberIn (littleEndian 4 (length (e .old))) ≡ length (e .old) = number-back 4 (length (e .old)) (fits-four (length (e .old)) (omega arith)) in
+      let n : numberIn (littleEndian 4 (length (e .new))) ≡ length (e .new) = number-back 4 (length (e .new)) (fits-four (length (e .new)) (omega arith)) in
       let t : 12 + length (e .old) - 12 ≡ length (e .old) = omega arith in
       let d : 12 + length (e .old) ≡ suc (suc (suc (suc (suc (suc (suc (suc (suc (suc (suc (suc (length (e .old))))))))))))) = omega arith in
       rw (p, o, n, eq-eqb (length (editBytes e)) (12 + length (e .old) + length (e .new)) bytes-length, t, take-append-seam (e .old) (e .new), d, drop-append-seam (e .old) (e .new))

@@ -16,13 +16,13 @@ use Rattle.record.specs.Record.{lengthAt}
 use Rattle.record.proofs.Each.{each-done, each-damaged}
 use Rattle.splice.specs.Edit.{Edit}
 use Rattle.journal.specs.Journal.{Authored, by, editLength, readEdit, partedAt, readJournal, nextOf}
-use Rattle.journal.specs.Walk.{editAt, Holds, edits, Latest, Parted}
+use Rattle.journal.specs.Walk.{editAt, HoldsEdit, edits, Latest, Parted}
 use Rattle.journal.proofs.Records.{front-least, parted-here}
 use Rattle.journal.proofs.Edits.{at-length, journal-by, edits-step, edits-first}
 
 -- ---- a record that was read
 
-module _ {s : List ℕ} {at place old new end : ℕ} (r : Holds s at place old new end) where
+module _ {s : List ℕ} {at place old new end : ℕ} (r : HoldsEdit s at place old new end) where
   -- the edit that an answer names, and its author
   abbrev pub authored : Authored Edit
   authored = by (r .author) (record { place = place; old = part old new s; new = part new end s })
@@ -79,7 +79,7 @@ module _ {s : List ℕ} {standing at last : ℕ} (w : Walking s standing at last
   pub walk-short : at < standing → length s ≤ at → readJournal s standing ≡ none
   walk-short h k = w .same ∙ rw (each-done readEdit s at k) (parted-short (standing - at) (w .stand) (omega arith))
 
-  module _ {place old new end : ℕ} (r : Holds s at place old new end) where
+  module _ {place old new end : ℕ} (r : HoldsEdit s at place old new end) where
     pub walk-beyond : at < standing → standing < end → readJournal s standing ≡ none
     walk-beyond h k =
         w .same ∙ rw (edits-behind r) (parted-beyond (standing - at) (w .stand) (authored r) (edits (drop end s)) (omega arith) (omega (arith, authored-length r)))

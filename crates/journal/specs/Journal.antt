@@ -6,13 +6,9 @@ use lib.ListN.{length, take, drop}
 use lib.Dec.{eqb, leb}
 use Rattle.base.specs.Choice.{pick, maybe}
 use Rattle.base.specs.Lists.{part}
-use Rattle.record.specs.Number.{littleEndian, numberOf}
+use Rattle.record.specs.Number.{littleEndian, numberIn}
 use Rattle.record.specs.Record.{Rec, readRecords}
 use Rattle.splice.specs.Edit.{Edit}
-
--- the most bytes of a journal
-abbrev pub journalMost : ℕ
-journalMost = 65536
 
 -- ---- who made an edit
 
@@ -72,15 +68,15 @@ lengths (e ∷ es) = lengths es + editLength e
 -- the edit in the bytes behind kind and author: 12 of numbers, so 18 of the record, or 20, plus both lengths; none: another length
 unfoldable pub editIn : List ℕ → Option Edit
 editIn s =
-    let old : ℕ = numberOf (part 4 8 s) in
-    let new : ℕ = numberOf (part 8 12 s) in
-    pick (eqb (length s) (12 + old + new)) (some (record { place = numberOf (take 4 s); old = part 12 (12 + old) s; new = drop (12 + old) s })) none
+    let old : ℕ = numberIn (part 4 8 s) in
+    let new : ℕ = numberIn (part 8 12 s) in
+    pick (eqb (length s) (12 + old + new)) (some (record { place = numberIn (take 4 s); old = part 12 (12 + old) s; new = drop (12 + old) s })) none
 
 -- the edit that a record holds, and its author; none: another kind, or another length
 unfoldable pub readEdit : Rec → Option (Authored Edit)
 readEdit r =
     pick (eqb (r .kind) 1) (Option·map (by NoPerson) (editIn (r .body)))
-    (pick (eqb (r .kind) 4) (Option·map (by (Person (numberOf (take 2 (r .body))))) (editIn (drop 2 (r .body)))) none)
+    (pick (eqb (r .kind) 4) (Option·map (by (Person (numberIn (take 2 (r .body))))) (editIn (drop 2 (r .body)))) none)
 
 -- a journal's edits: those standing, the latest first, and those undone, which wait, the next first
 pub record Journal : Type 0 where

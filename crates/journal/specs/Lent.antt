@@ -5,10 +5,11 @@ use mathlib.Core.Bool.{Bool, _&&_}
 use mathlib.Core.List.{List}
 use lib.ListN.{length, take, drop, getElem?}
 use lib.Dec.{leb}
+use Rattle.base.specs.Bounds.{journalMost}
 use Rattle.fault.specs.declared.Fault.the-variants.{Damaged, NothingLeft}
 use Rattle.fault.specs.Answer.{Answer, given, refused, _>>=_, need, some-or, then, atExit}
 use Rattle.splice.specs.Edit.{bufferWith}
-use Rattle.journal.specs.Journal.{Authored, journalMost, personOf, lengths, Journal, oldest, inOrder, readJournal}
+use Rattle.journal.specs.Journal.{Authored, personOf, lengths, Journal, oldest, inOrder, readJournal}
 use Rattle.journal.specs.declared.Named.{Named}
 use Rattle.journal.specs.declared.Named.the-variants as named
 use Rattle.journal.specs.declared.Forgot.{Forgot}

@@ -17,6 +17,8 @@ use Rattle.journal.specs.Lent.{personIn}
 use Rattle.journal.specs.declared.Oldest.{Oldest}
 use Rattle.journal.specs.declared.Oldest.the-variants.{End, Fewer}
 use Rattle.journal.specs.declared.Named.{Named}
+use Rattle.journal.specs.declared.Way.{Way}
+use Rattle.journal.specs.declared.Way.the-variants as way
 use Rattle.journal.specs.declared.Next.{Next}
 use Rattle.journal.specs.declared.Next.the-variants as next
 use Rattle.journal.specs.declared.Walked.{Walked}
@@ -38,10 +40,10 @@ abbrev pub startingAt : ℕ → Authored Edit → Placed
 startingAt at e = record { start = at; end = at + editLength e; edit = e .what }
 
 -- the edit that an answer names in the used bytes, and where its record begins and ends
-abbrev pub answered : List ℕ → Next → Answer Placed
-answered used next.Damaged = refused Damaged
-answered used next.Nothing = refused NothingLeft
-answered used (next.Edit start place old new end) = given (record { start = start; end = end; edit = record { place = place; old = part old new used; new = part new end used } })
+abbrev pub placed : List ℕ → Next → Answer Placed
+placed used next.Damaged = refused Damaged
+placed used next.Nothing = refused NothingLeft
+placed used (next.Edit start place old new end) = given (record { start = start; end = end; edit = record { place = place; old = part old new used; new = part new end used } })
 
 -- the latest edit that stands
 abbrev pub latest : List ℕ → ℕ → Answer Placed
@@ -50,6 +52,11 @@ latest used standing = some-or (readJournal used standing) Damaged >>= λ j. the
 -- the next edit that waits
 abbrev pub waiting : List ℕ → ℕ → Answer Placed
 waiting used standing = some-or (readJournal used standing) Damaged >>= λ j. then (startingAt standing) (some-or (nextOf (j .wait)) NothingLeft)
+
+-- the edit that comes next on the way
+abbrev pub nextOn : Way → List ℕ → ℕ → Answer Placed
+nextOn way.Undo used standing = latest used standing
+nextOn way.Redo used standing = waiting used standing
 
 -- the old and new bytes that an answer names stand one after the other among so many
 abbrev pub Within : ℕ → Next → Type 0
@@ -81,7 +88,7 @@ ReadsBytes s start from end (next.Edit start₁ place old new end₁) =
     × (old ≡ from + 12) × (old ≤ new) × (new ≤ end₁)
 
 -- the record at a place holds an edit, whose old and new bytes stand one after the other up to its end
-pub record Holds (s : List ℕ) (at place old new end : ℕ) : Type 0 where
+pub record HoldsEdit (s : List ℕ) (at place old new end : ℕ) : Type 0 where
   pub author : Author
   pub edit : editAt s at ≡ some (by author (record { place = place; old = part old new s; new = part new end s }))
   pub head : old ≡ at + frontLength author
@@ -93,7 +100,7 @@ pub record Holds (s : List ℕ) (at place old new end : ℕ) : Type 0 where
 abbrev pub Reads : List ℕ → ℕ → Next → Type 0
 Reads s at next.Damaged = (at < length s) × (editAt s at ≡ none)
 Reads s at next.Nothing = length s ≤ at
-Reads s at (next.Edit start place old new end) = (start ≡ at) × Holds s at place old new end
+Reads s at (next.Edit start place old new end) = (start ≡ at) × HoldsEdit s at place old new end
 
 -- ---- all records
 

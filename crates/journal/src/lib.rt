@@ -15,7 +15,13 @@ ghost use Rattle.record.specs.Record.{headBytes};
 ghost use Rattle.journal.specs.Journal as journal;
 ghost use Rattle.journal.specs.Journal.{readJournal};
 ghost use Rattle.journal.specs.Lent as lent;
-ghost use Rattle.journal.specs.Walk.{answered, latest, waiting, Within, editFront, ReadsBytes, Reads, edits, Walks, TellsPerson, EndsOldest};
+ghost use Rattle.journal.specs.Walk.{placed, latest, waiting, nextOn, Within, editFront, ReadsBytes, Reads, edits, Walks, TellsPerson, EndsOldest};
+
+// Which way through the journal: back by the latest edit that stands, or forth by the next that waits.
+pub enum Way {
+    Undo,
+    Redo,
+}
 
 // An edit from the journal: where its record starts, its place, where its old bytes start, where its new bytes start and where its record ends.
 pub enum Next {
@@ -172,8 +178,8 @@ pub fn sound(used: &[u8], standing: usize) -> bool
 }
 
 // The latest edit that stands: what an undo takes back.
-pub fn last_standing(used: &[u8], standing: usize) -> Next
-    ensures { λ r. ⌜ (answered (now (used .entry)) r ≡ latest (now (used .entry)) standing) × Within (length (now (used .entry))) r ⌝ }
+fn last_standing(used: &[u8], standing: usize) -> Next
+    ensures { λ r. ⌜ (placed (now (used .entry)) r ≡ latest (now (used .entry)) standing) × Within (length (now (used .entry))) r ⌝ }
 {
     let Walked::Sound { last } = walk(used, standing) else {
         return Next::Damaged;
@@ -185,13 +191,23 @@ pub fn last_standing(used: &[u8], standing: usize) -> Next
 }
 
 // The next edit that waits: what a redo makes again.
-pub fn first_waiting(used: &[u8], standing: usize) -> Next
-    ensures { λ r. ⌜ (answered (now (used .entry)) r ≡ waiting (now (used .entry)) standing) × Within (length (now (used .entry))) r ⌝ }
+fn first_waiting(used: &[u8], standing: usize) -> Next
+    ensures { λ r. ⌜ (placed (now (used .entry)) r ≡ waiting (now (used .entry)) standing) × Within (length (now (used .entry))) r ⌝ }
 {
     let Walked::Sound { last: _ } = walk(used, standing) else {
         return Next::Damaged;
     };
     read_edit(used, standing)
+}
+
+// The edit that comes next on the way.
+pub fn next_on(used: &[u8], standing: usize, way: Way) -> Next
+    ensures { λ r. ⌜ (placed (now (used .entry)) r ≡ nextOn way (now (used .entry)) standing) × Within (length (now (used .entry))) r ⌝ }
+{
+    match way {
+        Way::Undo => last_standing(used, standing),
+        Way::Redo => first_waiting(used, standing),
+    }
 }
 
 // A number in four bytes at a place.
@@ -232,7 +248,7 @@ pub fn fits(journal: &[u8], used: usize, standing: usize) -> bool
     if journal.len() < used {
         return false;
     }
-    if 65536 < used {
+    if base::JOURNAL_MOST < used {
         return false;
     }
     standing <= used

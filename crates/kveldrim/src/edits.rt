@@ -1,47 +1,12 @@
 // The calls that edit, the one that tells who edited, and the one that forgets. The numbers go in and come out; a refusal leaves them and every lent byte,
 // but that of a batch, which leaves what was done before it.
-use batch::Batched;
-use edit::Edited;
 use journal::Forgot;
-use journal::Named;
-ghost use Prim.Native.Nat.{ℕ};
-ghost use mathlib.Core.List.{List};
 ghost use Rattle.change.specs.Change.{Set, Remove};
 ghost use Rattle.journal.specs.Journal.{Person, by};
 ghost use Rattle.journal.specs.Lent as alone;
-ghost use Rattle.edit.specs.Calls.{request, undo, redo};
-ghost use Rattle.edit.specs.Step.{lent, answered};
+ghost use Rattle.edit.specs.Calls.{request, undo, redo, lent};
 ghost use Rattle.batch.specs.Batch as batch;
-ghost use Rattle.kveldrim.specs.Abi.{ReturnedNumber, ReturnedNumbers, Called, CalledBatch, CalledOnJournal};
-
-// The answer of a call that edits.
-fn tell_edited(
-    e: Edited,
-    size: &mut u64,
-    used: &mut u64,
-    standing: &mut u64,
-    place: &mut u64,
-    byte: &mut u64,
-) -> u32
-    ensures { λ r. ⌜ ReturnedNumbers (answered e) r (now (place .exit)) (now (byte .exit)) (now (size .entry)) (now (size .exit)) (now (used .entry)) (now (used .exit))
-        (now (standing .entry)) (now (standing .exit)) ⌝ }
-{
-    match e {
-        Edited::Done {
-            size: length,
-            used: u,
-            standing: n,
-        } => {
-            *place = 0;
-            *byte = 0;
-            *size = length as u64;
-            *used = u as u64;
-            *standing = n as u64;
-            0
-        }
-        Edited::Refused(f) => crate::refuse(f, place, byte),
-    }
-}
+ghost use Rattle.abi.specs.Abi.{ReturnedNumber, Called, CalledBatch, CalledOnJournal};
 
 #[no_mangle]
 pub extern "C" fn kveldrim_set(
@@ -65,7 +30,7 @@ pub extern "C" fn kveldrim_set(
     let u = *used as usize;
     let n = *standing as usize;
     let e = edit::set(file, length, journal, u, n, person, group, key, text);
-    tell_edited(e, size, used, standing, place, byte)
+    abi::tell_edited(e, size, used, standing, place, byte)
 }
 
 #[no_mangle]
@@ -89,7 +54,7 @@ pub extern "C" fn kveldrim_remove(
     let u = *used as usize;
     let n = *standing as usize;
     let e = edit::remove(file, length, journal, u, n, person, group, key);
-    tell_edited(e, size, used, standing, place, byte)
+    abi::tell_edited(e, size, used, standing, place, byte)
 }
 
 #[no_mangle]
@@ -110,7 +75,7 @@ pub extern "C" fn kveldrim_undo(
     let u = *used as usize;
     let n = *standing as usize;
     let e = edit::undo(file, length, journal, u, n);
-    tell_edited(e, size, used, standing, place, byte)
+    abi::tell_edited(e, size, used, standing, place, byte)
 }
 
 #[no_mangle]
@@ -131,51 +96,7 @@ pub extern "C" fn kveldrim_redo(
     let u = *used as usize;
     let n = *standing as usize;
     let e = edit::redo(file, length, journal, u, n);
-    tell_edited(e, size, used, standing, place, byte)
-}
-
-// The answer of a batch. What was done and the numbers left are written also where it was stopped.
-fn tell_batched(
-    b: Batched,
-    size: &mut u64,
-    used: &mut u64,
-    standing: &mut u64,
-    place: &mut u64,
-    byte: &mut u64,
-    done: &mut u64,
-) -> u32
-    ensures { λ r. ⌜ ((file journal : List ℕ) → CalledBatch (batch.answered b file journal) r (now (place .exit)) (now (byte .exit)) (now (done .exit))
-        (now (size .exit)) (now (used .exit)) (now (standing .exit)) file journal) ⌝ }
-{
-    match b {
-        Batched::All {
-            done: d,
-            size: length,
-            used: u,
-            standing: n,
-        } => {
-            *done = d as u64;
-            *size = length as u64;
-            *used = u as u64;
-            *standing = n as u64;
-            *place = 0;
-            *byte = 0;
-            0
-        }
-        Batched::Stopped {
-            fault,
-            done: before,
-            size: length,
-            used: u,
-            standing: n,
-        } => {
-            *done = before as u64;
-            *size = length as u64;
-            *used = u as u64;
-            *standing = n as u64;
-            crate::refuse(fault, place, byte)
-        }
-    }
+    abi::tell_edited(e, size, used, standing, place, byte)
 }
 
 #[no_mangle]
@@ -198,22 +119,7 @@ pub extern "C" fn kveldrim_batch(
     let u = *used as usize;
     let n = *standing as usize;
     let b = batch::batch(file, length, journal, u, n, person, requests);
-    tell_batched(b, size, used, standing, place, byte, done)
-}
-
-// The answer of the call for a person.
-fn tell_named(n: Named, place: &mut u64, byte: &mut u64, person: &mut u16) -> u32
-    ensures { λ r. ⌜ ReturnedNumber (alone.answered n) r (now (place .exit)) (now (byte .exit)) (now (person .entry)) (now (person .exit)) ⌝ }
-{
-    match n {
-        Named::Person(p) => {
-            *place = 0;
-            *byte = 0;
-            *person = p;
-            0
-        }
-        Named::Refused(f) => crate::refuse(f, place, byte),
-    }
+    abi::tell_batched(b, size, used, standing, place, byte, done)
 }
 
 #[no_mangle]
@@ -231,7 +137,7 @@ pub extern "C" fn kveldrim_person(
     let s = standing as usize;
     let i = n as usize;
     let mut byte = 0;
-    tell_named(journal::person(journal, u, s, i), place, &mut byte, person)
+    abi::tell_named(journal::person(journal, u, s, i), place, &mut byte, person)
 }
 
 #[no_mangle]
@@ -261,7 +167,7 @@ pub extern "C" fn kveldrim_forget(
         }
         Forgot::Refused(f) => {
             let mut byte = 0;
-            crate::refuse(f, place, &mut byte)
+            abi::refuse(f, place, &mut byte)
         }
     }
 }

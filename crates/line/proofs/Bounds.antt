@@ -12,10 +12,10 @@ use Rattle.base.specs.Choice.{pick}
 use Rattle.base.specs.Lists.{span}
 use Rattle.base.proofs.Scan.{inside}
 use Rattle.base.proofs.Span.{span-le, span-from}
-use Rattle.text.specs.Class.{keyByte, groupByte, spaceByte, blankByte, valueByte}
-use Rattle.text.specs.Utf8.{textFault}
-use Rattle.text.specs.declared.Due.the-variants.{Start}
-use Rattle.text.proofs.Utf8Laws.{FaultWithin, fault-within}
+use Rattle.characters.specs.Class.{keyByte, groupByte, spaceByte, blankByte, valueByte}
+use Rattle.characters.specs.Utf8.{textFault}
+use Rattle.characters.specs.declared.Due.the-variants.{Start}
+use Rattle.characters.proofs.Utf8Laws.{FaultWithin, fault-within}
 use Rattle.line.specs.Locale.{localeAt}
 use Rattle.line.specs.Name.{byteAt, postfixAt, readName}
 use Rattle.line.specs.Line.{entryAfter, entryOf, readEntry, readHeader, readLine}

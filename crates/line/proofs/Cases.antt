@@ -9,8 +9,8 @@ use lib.Dec.{eqb, eqb·zero-suc, eqb·suc-zero, eqb·suc-suc}
 use Rattle.base.specs.Choice.{pick, maybe}
 use Rattle.base.specs.Lists.{span}
 use Rattle.base.proofs.Tests.{class-other}
-use Rattle.text.specs.Class.{keyByte, spaceByte, blankByte}
-use Rattle.line.specs.Locale.{marked}
+use Rattle.characters.specs.Class.{keyByte, spaceByte, blankByte}
+use Rattle.line.specs.Locale.{partLength}
 use Rattle.line.specs.Line.{readEntry, readHeader, readLine}
 use Rattle.line.specs.declared.Locale.{Locale}
 use Rattle.line.specs.declared.Locale.the-variants.{End, Unfinished}
@@ -22,13 +22,13 @@ abbrev pub langOf : List ℕ → ℕ
 langOf s = span keyByte s
 
 abbrev pub countryOf : List ℕ → ℕ
-countryOf s = marked 95 (drop (langOf s) s)
+countryOf s = partLength 95 (drop (langOf s) s)
 
 abbrev pub encodingOf : List ℕ → ℕ
-encodingOf s = marked 46 (drop (langOf s + countryOf s) s)
+encodingOf s = partLength 46 (drop (langOf s + countryOf s) s)
 
 abbrev pub modifierOf : List ℕ → ℕ
-modifierOf s = marked 64 (drop (langOf s + countryOf s + encodingOf s) s)
+modifierOf s = partLength 64 (drop (langOf s + countryOf s + encodingOf s) s)
 
 -- a locale by the lengths of its parts, and which is empty
 abbrev pub localeBy : (l n e m : ℕ) (t₁ t₂ t₃ t₄ : Bool) → Locale

@@ -13,11 +13,11 @@ use Rattle.base.specs.Choice.{pick}
 use Rattle.base.specs.Lists.{span, all}
 use Rattle.base.proofs.Tests.{no, and-both, class-other, all-weaker}
 use Rattle.base.proofs.Span.{cut-inside, span-same, span-same-at, span-none}
-use Rattle.text.specs.Class.{keyByte, spaceByte, valueByte}
-use Rattle.text.specs.Utf8.{textFault}
-use Rattle.text.specs.declared.Due.the-variants.{Start}
-use Rattle.text.proofs.Endings.{tailByte, TextEnding, text-ending}
-use Rattle.line.specs.Locale.{marked, parts, emptyPart, localeAt}
+use Rattle.characters.specs.Class.{keyByte, spaceByte, valueByte}
+use Rattle.characters.specs.Utf8.{textFault}
+use Rattle.characters.specs.declared.Due.the-variants.{Start}
+use Rattle.characters.proofs.Endings.{tailByte, TextEnding, text-ending}
+use Rattle.line.specs.Locale.{partLength, parts, emptyPart, localeAt}
 use Rattle.line.specs.Name.{byteAt, postfixAt, readName}
 use Rattle.line.specs.Line.{entryAfter, readLine, isBad}
 use Rattle.line.specs.Place.{lineByte, Mended}
@@ -34,19 +34,19 @@ use Rattle.line.proofs.Cases.{langOf, countryOf, encodingOf, modifierOf
 
 -- a locale that ends with the front, before `]`
 locale-ended : (w p v : List ℕ) → localeAt (p ++ v) ≡ End (length p) → localeAt (p ++ (93 ∷ w)) ≡ End (length p)
-unfolding span marked keyByte
+unfolding span partLength keyByte
 locale-ended w p v e =
     locale-same (93 ∷ w) p v (rw e (omega arith, λ _. record { key = refl; country = refl; encoding = refl; modifier = refl })) ∙ e
 
 -- a locale of one byte
 locale-one : (w p : List ℕ) → length p ≡ 0 → localeAt (p ++ (97 ∷ 93 ∷ w)) ≡ End (length p + 1)
-unfolding localeAt emptyPart parts span marked keyByte
+unfolding localeAt emptyPart parts span partLength keyByte
 locale-one w [] h = refl
 locale-one w (b ∷ p) h = absurd (omega arith)
 
 -- a mark at the end of some bytes, with one byte after it
-mark-one : (mark : ℕ) (w p v : List ℕ) → length p ≡ 1 → marked mark (p ++ v) ≡ 1 → marked mark (p ++ (97 ∷ 93 ∷ w)) ≡ 2
-unfolding marked span keyByte
+mark-one : (mark : ℕ) (w p v : List ℕ) → length p ≡ 1 → partLength mark (p ++ v) ≡ 1 → partLength mark (p ++ (97 ∷ 93 ∷ w)) ≡ 2
+unfolding partLength span keyByte
 mark-one mark w [] v h e = absurd (omega arith)
 mark-one mark w (b ∷ c ∷ p) v h e = absurd (omega arith)
 mark-one mark w (b ∷ []) v h e = go (eqb b mark) e
@@ -60,13 +60,13 @@ module _ (w p v : List ℕ) where
   abbrev closed : List ℕ
   closed = p ++ (97 ∷ 93 ∷ w)
 
-  mark-at : (mark n : ℕ) → n + 1 ≡ length p → marked mark (drop n (p ++ v)) ≡ 1 → marked mark (drop n closed) ≡ 2
+  mark-at : (mark n : ℕ) → n + 1 ≡ length p → partLength mark (drop n (p ++ v)) ≡ 1 → partLength mark (drop n closed) ≡ 2
   mark-at mark n h e =
       let l : n ≤ length p = omega arith in
       rw (drop-append-le n p (97 ∷ 93 ∷ w) l) (mark-one mark w (drop n p) v (omega (arith, length-drop n p)) (rw (drop-append-le n p v l) at e))
 
-  mark-past : (mark n : ℕ) → n ≡ length p + 1 → eqb 93 mark ≡ false → marked mark (drop n closed) ≡ 0
-  unfolding marked
+  mark-past : (mark n : ℕ) → n ≡ length p + 1 → eqb 93 mark ≡ false → partLength mark (drop n closed) ≡ 0
+  unfolding partLength
   mark-past mark n h e = rw (h, drop-append-add p (97 ∷ 93 ∷ w) 1, e)
 
   -- one byte of a key is what the locale lacks
@@ -89,10 +89,10 @@ module _ (w p v : List ℕ) where
       lang : l < length p → langOf closed ≡ l
       lang h = lang-same (97 ∷ 93 ∷ w) p v (cut-inside (NoPart (97 ∷ 93 ∷ w)) p l h)
 
-      country : l + n < length p → marked 95 (drop l closed) ≡ n
+      country : l + n < length p → partLength 95 (drop l closed) ≡ n
       country h = country-same (97 ∷ 93 ∷ w) p v (cut-inside (NoPart (97 ∷ 93 ∷ w)) p (l + n) h)
 
-      encoding : l + n + e < length p → marked 46 (drop (l + n) closed) ≡ e
+      encoding : l + n + e < length p → partLength 46 (drop (l + n) closed) ≡ e
       encoding h = encoding-same (97 ∷ 93 ∷ w) p v (cut-inside (NoPart (97 ∷ 93 ∷ w)) p (l + n + e) h)
 
       go : (t₁ t₂ t₃ t₄ : Bool) → eqb l 0 ≡ t₁ → eqb n 1 ≡ t₂ → eqb e 1 ≡ t₃ → eqb m 1 ≡ t₄ → localeBy l n e m t₁ t₂ t₃ t₄ ≡ Unfinished (length p) → localeAt closed ≡ End (length p + 1)

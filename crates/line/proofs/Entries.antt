@@ -11,15 +11,14 @@ use Rattle.base.specs.Choice.{pick, maybe}
 use Rattle.base.specs.Lists.{span}
 use Rattle.base.proofs.Span.{span-take}
 use Rattle.base.proofs.Tests.{no}
-use Rattle.text.specs.Class.{keyByte, groupByte, blankByte, valueByte}
-use Rattle.text.specs.Utf8.{textFault}
-use Rattle.text.specs.declared.Due.the-variants.{Start}
+use Rattle.characters.specs.Class.{keyByte, groupByte, blankByte, valueByte}
+use Rattle.characters.specs.Utf8.{textFault}
+use Rattle.characters.specs.declared.Due.the-variants.{Start}
 use Rattle.line.specs.Locale.{parts, localeEnd, emptyPart}
 use Rattle.line.specs.Name.{byteAt, postfixAt, readName}
 use Rattle.line.specs.Line.{entryAfter, entryOf, readEntry, readHeader, readLine}
 use Rattle.line.specs.declared.Named.{Named}
 use Rattle.line.specs.declared.Named.the-variants.{Name, NoName}
-use Rattle.line.specs.declared.Line.{Line}
 use Rattle.line.specs.declared.Line.the-variants.{Blank, Comment, Header, Entry, Bad}
 use Rattle.line.proofs.Bounds.{name-within}
 use Rattle.line.proofs.Cases.{signAt, valueAt}

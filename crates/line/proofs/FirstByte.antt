@@ -11,9 +11,9 @@ use borrow.Author.Tests.{eqb-true, ne-eqb}
 use Rattle.base.specs.Choice.{pick, maybe}
 use Rattle.base.specs.Lists.{span}
 use Rattle.base.proofs.Span.{span-zero, span-some}
-use Rattle.text.specs.Class.{keyByte, groupByte, spaceByte, blankByte, valueByte}
-use Rattle.text.specs.Utf8.{textFault}
-use Rattle.text.specs.declared.Due.the-variants.{Start}
+use Rattle.characters.specs.Class.{keyByte, groupByte, spaceByte, blankByte, valueByte}
+use Rattle.characters.specs.Utf8.{textFault}
+use Rattle.characters.specs.declared.Due.the-variants.{Start}
 use Rattle.line.specs.Name.{byteAt, readName}
 use Rattle.line.specs.Line.{entryAfter, entryOf, readEntry, readHeader, readLine}
 use Rattle.line.specs.declared.Named.{Named}

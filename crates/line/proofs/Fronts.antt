@@ -12,10 +12,10 @@ use Rattle.base.specs.Choice.{pick}
 use Rattle.base.specs.Lists.{span}
 use Rattle.base.proofs.Tests.{by-test}
 use Rattle.base.proofs.Span.{Cut, cut-le, cut-inside, Sames, same-at, span-same, span-same-at}
-use Rattle.text.specs.Class.{keyByte, spaceByte, valueByte}
-use Rattle.text.specs.Utf8.{textFault}
-use Rattle.text.specs.declared.Due.the-variants.{Start}
-use Rattle.line.specs.Locale.{marked, parts, emptyPart, localeAt}
+use Rattle.characters.specs.Class.{keyByte, spaceByte, valueByte}
+use Rattle.characters.specs.Utf8.{textFault}
+use Rattle.characters.specs.declared.Due.the-variants.{Start}
+use Rattle.line.specs.Locale.{partLength, parts, emptyPart, localeAt}
 use Rattle.line.specs.Name.{byteAt, postfixAt, readName}
 use Rattle.line.specs.Line.{entryAfter}
 use Rattle.line.specs.declared.Locale.{Locale}
@@ -30,12 +30,12 @@ byte-same p v w n h = List·getD-append p w 0 n h ∙ sym (List·getD-append p v
 
 -- ---- locales
 
-marked-same : (mark : ℕ) (w : List ℕ) → Sames (λ n. n) (marked mark) w ((span keyByte w ≡ 0) × (marked mark w ≡ 0))
-unfolding marked
-marked-same mark w [] v c = let e : marked mark v ≡ 0 = omega (arith, c .0) in c .1 e .1 ∙ sym e
+marked-same : (mark : ℕ) (w : List ℕ) → Sames (λ n. n) (partLength mark) w ((span keyByte w ≡ 0) × (partLength mark w ≡ 0))
+unfolding partLength
+marked-same mark w [] v c = let e : partLength mark v ≡ 0 = omega (arith, c .0) in c .1 e .1 ∙ sym e
 marked-same mark w (b ∷ p) v c = go (eqb b mark) c
   where
-    go : (t : Bool) → Cut ((span keyByte w ≡ 0) × (marked mark w ≡ 0)) (b ∷ p) (pick t (suc (span keyByte (p ++ v))) 0)
+    go : (t : Bool) → Cut ((span keyByte w ≡ 0) × (partLength mark w ≡ 0)) (b ∷ p) (pick t (suc (span keyByte (p ++ v))) 0)
         → pick t (suc (span keyByte (p ++ w))) 0 ≡ pick t (suc (span keyByte (p ++ v))) 0
     go true c = let h = c .0 in ap suc (span-same keyByte w p v (omega arith, λ e. c .1 (ap suc e) .0))
     go false c = refl
@@ -43,28 +43,28 @@ marked-same mark w (b ∷ p) v c = go (eqb b mark) c
 -- no part of a locale goes on, and none begins
 pub record NoPart (w : List ℕ) : Type 0 where
   pub key : span keyByte w ≡ 0
-  pub country : marked 95 w ≡ 0
-  pub encoding : marked 46 w ≡ 0
-  pub modifier : marked 64 w ≡ 0
+  pub country : partLength 95 w ≡ 0
+  pub encoding : partLength 46 w ≡ 0
+  pub modifier : partLength 64 w ≡ 0
 
 module _ (w p v : List ℕ) where
   abbrev pub PartCut : ℕ → Type 0
   PartCut n = Cut (NoPart w) p n
 
-  marked-at : (mark n : ℕ) → (NoPart w → marked mark w ≡ 0) → PartCut (n + marked mark (drop n (p ++ v))) → marked mark (drop n (p ++ w)) ≡ marked mark (drop n (p ++ v))
-  marked-at mark n f c = same-at (λ k. k) (marked mark) w ((span keyByte w ≡ 0) × (marked mark w ≡ 0)) (marked-same mark w) p v n (c .0, λ e. (c .1 e .key, f (c .1 e)))
+  marked-at : (mark n : ℕ) → (NoPart w → partLength mark w ≡ 0) → PartCut (n + partLength mark (drop n (p ++ v))) → partLength mark (drop n (p ++ w)) ≡ partLength mark (drop n (p ++ v))
+  marked-at mark n f c = same-at (λ k. k) (partLength mark) w ((span keyByte w ≡ 0) × (partLength mark w ≡ 0)) (marked-same mark w) p v n (c .0, λ e. (c .1 e .key, f (c .1 e)))
 
   pub lang-same : PartCut (langOf (p ++ v)) → langOf (p ++ w) ≡ langOf (p ++ v)
   lang-same c = span-same keyByte w p v (c .0, λ e. c .1 e .key)
 
-  pub country-same : PartCut (langOf (p ++ v) + countryOf (p ++ v)) → marked 95 (drop (langOf (p ++ v)) (p ++ w)) ≡ countryOf (p ++ v)
+  pub country-same : PartCut (langOf (p ++ v) + countryOf (p ++ v)) → partLength 95 (drop (langOf (p ++ v)) (p ++ w)) ≡ countryOf (p ++ v)
   country-same c = marked-at 95 (langOf (p ++ v)) (λ s. s .country) c
 
-  pub encoding-same : PartCut (langOf (p ++ v) + countryOf (p ++ v) + encodingOf (p ++ v)) → marked 46 (drop (langOf (p ++ v) + countryOf (p ++ v)) (p ++ w)) ≡ encodingOf (p ++ v)
+  pub encoding-same : PartCut (langOf (p ++ v) + countryOf (p ++ v) + encodingOf (p ++ v)) → partLength 46 (drop (langOf (p ++ v) + countryOf (p ++ v)) (p ++ w)) ≡ encodingOf (p ++ v)
   encoding-same c = marked-at 46 (langOf (p ++ v) + countryOf (p ++ v)) (λ s. s .encoding) c
 
   modifier-same : PartCut (langOf (p ++ v) + countryOf (p ++ v) + encodingOf (p ++ v) + modifierOf (p ++ v))
-      → marked 64 (drop (langOf (p ++ v) + countryOf (p ++ v) + encodingOf (p ++ v)) (p ++ w)) ≡ modifierOf (p ++ v)
+      → partLength 64 (drop (langOf (p ++ v) + countryOf (p ++ v) + encodingOf (p ++ v)) (p ++ w)) ≡ modifierOf (p ++ v)
   modifier-same c = marked-at 64 (langOf (p ++ v) + countryOf (p ++ v) + encodingOf (p ++ v)) (λ s. s .modifier) c
 
 -- where a locale's reading stopped

@@ -13,8 +13,8 @@ use Rattle.base.specs.Choice.{pick, maybe}
 use Rattle.base.specs.Lists.{span}
 use Rattle.base.proofs.Span.{span-le}
 use Rattle.base.proofs.Tail.{tail-lent}
-use Rattle.text.specs.Class.{keyByte}
-use Rattle.line.specs.Locale.{marked, parts, localeEnd, emptyPart, localeAt, isLocale}
+use Rattle.characters.specs.Class.{keyByte}
+use Rattle.line.specs.Locale.{partLength, parts, localeEnd, emptyPart, localeAt, isLocale}
 use Rattle.line.specs.Name.{byteAt, postfixAt}
 use Rattle.line.specs.declared.Parts.{Parts}
 use Rattle.line.specs.declared.Locale.{Locale}
@@ -24,8 +24,8 @@ use Rattle.line.specs.declared.Named.the-variants.{Name, NoName}
 
 -- ---- bounds
 
-marked-le : (mark : ℕ) (s : List ℕ) → marked mark s ≤ length s
-unfolding marked
+marked-le : (mark : ℕ) (s : List ℕ) → partLength mark s ≤ length s
+unfolding partLength
 marked-le mark [] = omega arith
 marked-le mark (b ∷ s) = go (eqb b mark) (span-le keyByte s)
   where
@@ -33,7 +33,7 @@ marked-le mark (b ∷ s) = go (eqb b mark) (span-le keyByte s)
     go true h = omega arith
     go false h = omega arith
 
-pub marked-from : (mark : ℕ) (s : List ℕ) (from : ℕ) → from ≤ length s → from + marked mark (drop from s) ≤ length s
+pub marked-from : (mark : ℕ) (s : List ℕ) (from : ℕ) → from ≤ length s → from + partLength mark (drop from s) ≤ length s
 marked-from mark s from h = omega (arith, marked-le mark (drop from s), length-drop from s)
 
 -- a locale ends inside
@@ -42,7 +42,7 @@ unfolding parts
 parts-within s =
     let l = span-le keyByte s in
     let c = marked-from 95 s (span keyByte s) l in
-    let e = marked-from 46 s (span keyByte s + marked 95 (drop (span keyByte s) s)) c in
+    let e = marked-from 46 s (span keyByte s + partLength 95 (drop (span keyByte s) s)) c in
     marked-from 64 s _ e
 
 -- a byte that is missing stands in a part or at its end
@@ -84,8 +84,8 @@ locale-lent s from = rw (tail-lent from s, ← length-drop from s) (locale-withi
 -- ---- a language alone
 
 -- no part begins with another byte than its mark
-marked-other : (mark : ℕ) (s : List ℕ) (n : ℕ) → (byteAt s n ≡ mark → ⊥) → marked mark (drop n s) ≡ 0
-unfolding marked
+marked-other : (mark : ℕ) (s : List ℕ) (n : ℕ) → (byteAt s n ≡ mark → ⊥) → partLength mark (drop n s) ≡ 0
+unfolding partLength
 marked-other mark [] zero h = refl
 marked-other mark [] (suc n) h = refl
 marked-other mark (b ∷ s) zero h = rw (ne-eqb b mark h)
@@ -95,9 +95,9 @@ locale-short : (s : List ℕ) (l : ℕ) → l ≡ span keyByte s → 0 < l → b
 unfolding localeAt emptyPart parts
 locale-short s l e h b =
     let z : l + 0 ≡ l = omega arith in
-    let c : marked 95 (drop l s) ≡ 0 = marked-other 95 s l (λ q. omega arith) in
-    let d : marked 46 (drop l s) ≡ 0 = marked-other 46 s l (λ q. omega arith) in
-    let f : marked 64 (drop l s) ≡ 0 = marked-other 64 s l (λ q. omega arith) in
+    let c : partLength 95 (drop l s) ≡ 0 = marked-other 95 s l (λ q. omega arith) in
+    let d : partLength 46 (drop l s) ≡ 0 = marked-other 46 s l (λ q. omega arith) in
+    let f : partLength 64 (drop l s) ≡ 0 = marked-other 64 s l (λ q. omega arith) in
     rw (← e, c, z, d, z, f, z, ne-eqb l 0 (λ q. omega arith))
 
 -- ---- what asks for a locale

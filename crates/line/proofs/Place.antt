@@ -12,10 +12,10 @@ use borrow.Author.Tests.{eqb-true, eq-eqb, ne-eqb}
 use Rattle.base.specs.Lists.{span, all}
 use Rattle.base.proofs.Tests.{no}
 use Rattle.base.proofs.Span.{cut-inside, span-same, span-same-at}
-use Rattle.text.specs.Class.{groupByte, spaceByte, blankByte, valueByte}
-use Rattle.text.specs.Utf8.{textFault}
-use Rattle.text.specs.declared.Due.the-variants.{Start}
-use Rattle.text.proofs.Endings.{fault-inside}
+use Rattle.characters.specs.Class.{groupByte, spaceByte, blankByte, valueByte}
+use Rattle.characters.specs.Utf8.{textFault}
+use Rattle.characters.specs.declared.Due.the-variants.{Start}
+use Rattle.characters.proofs.Endings.{fault-inside}
 use Rattle.line.specs.Name.{byteAt, readName}
 use Rattle.line.specs.Line.{entryAfter, entryOf, readEntry, readHeader, readLine, isBad}
 use Rattle.line.specs.Place.{BadWithin, BadByte, Mended, GoodBefore}

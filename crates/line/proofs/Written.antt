@@ -14,11 +14,11 @@ use Rattle.base.specs.Lists.{span}
 use Rattle.base.proofs.Clean.{Clean, clean-append, clean-add, clean-span, clean-byte}
 use Rattle.base.proofs.Span.{cut-inside}
 use Rattle.base.proofs.Tests.{no, by-test, class-other}
-use Rattle.text.specs.Class.{keyByte, spaceByte, blankByte, valueByte}
-use Rattle.text.specs.Utf8.{textFault}
-use Rattle.text.specs.declared.Due.the-variants.{Start}
-use Rattle.text.proofs.Values.{value-clean}
-use Rattle.line.specs.Locale.{marked, parts, localeEnd}
+use Rattle.characters.specs.Class.{keyByte, spaceByte, blankByte, valueByte}
+use Rattle.characters.specs.Utf8.{textFault}
+use Rattle.characters.specs.declared.Due.the-variants.{Start}
+use Rattle.characters.proofs.Steps.{value-clean}
+use Rattle.line.specs.Locale.{partLength, parts, localeEnd}
 use Rattle.line.specs.Name.{readName}
 use Rattle.line.specs.Line.{entryAfter, readEntry, readLine}
 use Rattle.line.specs.Form.{keyForm, namesAll}
@@ -96,8 +96,8 @@ module _ (k v : List ℕ) (key : ℕ) (h : readName k ≡ Name key (length k)) (
 
 -- ---- neither has an LF
 
-clean-marked : (mark : ℕ) → eqb mark 10 ≡ false → (s : List ℕ) → Clean (take (marked mark s) s)
-unfolding marked
+clean-marked : (mark : ℕ) → eqb mark 10 ≡ false → (s : List ℕ) → Clean (take (partLength mark s) s)
+unfolding partLength
 clean-marked mark h [] = tt
 clean-marked mark h (b ∷ s) = by (eqb b mark) refl
   where
@@ -109,8 +109,8 @@ clean-parts : (s : List ℕ) → Clean (take (localeEnd (parts s)) s)
 unfolding parts
 clean-parts s =
     let l : ℕ = span keyByte s in
-    let c : ℕ = marked 95 (drop l s) in
-    let e : ℕ = marked 46 (drop (l + c) s) in
+    let c : ℕ = partLength 95 (drop l s) in
+    let e : ℕ = partLength 46 (drop (l + c) s) in
     clean-add (l + c + e) _ s
     (clean-add (l + c) e s (clean-add l c s (clean-span keyByte (unfold keyByte in refl) s) (clean-marked 95 refl (drop l s))) (clean-marked 46 refl (drop (l + c) s)))
     (clean-marked 64 refl (drop (l + c + e) s))

@@ -5,7 +5,7 @@ use mathlib.Core.List.{List}
 use lib.ListN.{length}
 use lib.Dec.{eqb}
 use Rattle.base.specs.Lists.{all}
-use Rattle.text.specs.Class.{groupByte, keyByte}
+use Rattle.characters.specs.Class.{groupByte, keyByte}
 use Rattle.line.specs.Locale.{isLocale}
 use Rattle.line.specs.Name.{readName}
 use Rattle.line.specs.declared.Named.{Named}

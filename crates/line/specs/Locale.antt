@@ -1,6 +1,6 @@
 -- A locale: lang, then perhaps _COUNTRY, .ENCODING, @MODIFIER in that order (01, "Lines of a file"). Assumes nothing.
 use Prim.Native.Nat.{ℕ, suc, _+_}
-use Prim.Native.Char.{Char, code}
+use Prim.Native.Char.{code}
 use mathlib.Core.Bool.{Bool, false}
 use mathlib.Core.Option.{Option, none, some}
 use mathlib.Core.List.{List, [], _∷_}
@@ -8,23 +8,23 @@ use lib.ListN.{length, drop}
 use lib.Dec.{eqb}
 use Rattle.base.specs.Choice.{pick, maybe}
 use Rattle.base.specs.Lists.{span}
-use Rattle.text.specs.Class.{keyByte}
+use Rattle.characters.specs.Class.{keyByte}
 use Rattle.line.specs.declared.Parts.{Parts}
 use Rattle.line.specs.declared.Locale.{Locale}
 use Rattle.line.specs.declared.Locale.the-variants as locale
 
 -- a part's length with its mark, if the mark stands at the front
-unfoldable pub marked : ℕ → List ℕ → ℕ
-marked mark [] = 0
-marked mark (b ∷ bs) = pick (eqb b mark) (suc (span keyByte bs)) 0
+unfoldable pub partLength : ℕ → List ℕ → ℕ
+partLength mark [] = 0
+partLength mark (b ∷ bs) = pick (eqb b mark) (suc (span keyByte bs)) 0
 
 -- the lengths of a locale's parts at the front, in their order, each but the first with its mark; 0: no such part
 unfoldable pub parts : List ℕ → Parts
 parts s =
     let l : ℕ = span keyByte s in
-    let c : ℕ = marked (code "_") (drop l s) in
-    let e : ℕ = marked (code ".") (drop (l + c) s) in
-    let m : ℕ = marked (code "@") (drop (l + c + e) s) in
+    let c : ℕ = partLength (code "_") (drop l s) in
+    let e : ℕ = partLength (code ".") (drop (l + c) s) in
+    let m : ℕ = partLength (code "@") (drop (l + c + e) s) in
     record { lang = l; country = c; encoding = e; modifier = m }
 
 -- where a locale at the front ends

@@ -1,12 +1,12 @@
 -- A key, at once perhaps with a postfix `[LOCALE]` (01, "Lines of a file"). Assumes nothing.
 use Prim.Native.Nat.{ℕ, _+_}
-use Prim.Native.Char.{Char, code}
+use Prim.Native.Char.{code}
 use mathlib.Core.List.{List}
-use lib.ListN.{length, drop, getD}
+use lib.ListN.{drop, getD}
 use lib.Dec.{eqb}
 use Rattle.base.specs.Choice.{pick, maybe}
 use Rattle.base.specs.Lists.{span}
-use Rattle.text.specs.Class.{keyByte}
+use Rattle.characters.specs.Class.{keyByte}
 use Rattle.line.specs.Locale.{parts, localeEnd, emptyPart}
 use Rattle.line.specs.declared.Parts.{Parts}
 use Rattle.line.specs.declared.Named.{Named}

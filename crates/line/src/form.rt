@@ -1,17 +1,17 @@
 // The forms of group, key and locale arguments.
 use crate::Locale;
 use crate::Named;
-use text::Class;
+use characters::Class;
 ghost use mathlib.Core.Path.{_≡_};
 ghost use Rattle.base.specs.Lists.{all};
-ghost use Rattle.text.specs.Class.{member};
+ghost use Rattle.characters.specs.Class.{member};
 ghost use Rattle.line.specs.Form as spec;
 
 // Whether all bytes are of a class.
 fn all_in(s: &[u8], k: Class) -> bool
     ensures { λ r. ⌜ r ≡ all (member k) (now (s .entry)) ⌝ }
 {
-    text::classes::span_end(s, 0, k) == s.len()
+    characters::classes::span_end(s, 0, k) == s.len()
 }
 
 // A group argument: one byte or more of a group's name.

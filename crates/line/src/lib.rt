@@ -1,11 +1,10 @@
 // A line's reading, the names in it, and the forms of group, key and locale arguments.
 pub mod form; // form.rt: the forms of arguments
 
-use text::Class;
-use text::Content;
-use text::Scan;
+use characters::Class;
+use characters::Scan;
 ghost use mathlib.Core.Path.{_≡_};
-ghost use Prim.Native.Nat.{_+_, _≤_, _<_};
+ghost use Prim.Native.Nat.{_+_, _<_};
 ghost use lib.ListN.{length, drop};
 ghost use Rattle.line.specs.Locale as locale;
 ghost use Rattle.line.specs.Name as name;
@@ -60,8 +59,8 @@ pub fn byte_at(s: &[u8], i: usize) -> u8
 }
 
 // The length of a part with its mark.
-fn marked(s: &[u8], at: usize, mark: u8) -> usize
-    ensures { λ r. ⌜ r ≡ locale.marked mark (drop at (now (s .entry))) ⌝ }
+fn part_length(s: &[u8], at: usize, mark: u8) -> usize
+    ensures { λ r. ⌜ r ≡ locale.partLength mark (drop at (now (s .entry))) ⌝ }
 {
     if s.len() <= at {
         return 0;
@@ -69,17 +68,17 @@ fn marked(s: &[u8], at: usize, mark: u8) -> usize
     if s[at] != mark {
         return 0;
     }
-    text::classes::span_end(s, at + 1, Class::Key) - at
+    characters::classes::span_end(s, at + 1, Class::Key) - at
 }
 
 // The parts of a locale at the front.
 pub fn read_parts(s: &[u8]) -> Parts
     ensures { λ r. ⌜ r ≡ locale.parts (now (s .entry)) ⌝ }
 {
-    let lang = text::classes::span_end(s, 0, Class::Key);
-    let country = marked(s, lang, b'_');
-    let encoding = marked(s, lang + country, b'.');
-    let modifier = marked(s, lang + country + encoding, b'@');
+    let lang = characters::classes::span_end(s, 0, Class::Key);
+    let country = part_length(s, lang, b'_');
+    let encoding = part_length(s, lang + country, b'.');
+    let modifier = part_length(s, lang + country + encoding, b'@');
     Parts {
         lang,
         country,
@@ -89,7 +88,7 @@ pub fn read_parts(s: &[u8]) -> Parts
 }
 
 // The locale at the front.
-pub fn locale_at(s: &[u8]) -> Locale
+fn locale_at(s: &[u8]) -> Locale
     ensures { λ r. ⌜ r ≡ locale.localeAt (now (s .entry)) ⌝ }
 {
     let p = read_parts(s);
@@ -118,7 +117,7 @@ fn postfix(s: &[u8], key: usize) -> Named
     ensures { λ r. ⌜ r ≡ name.postfixAt (now (s .entry)) key ⌝ }
 {
     let from = key + 1;
-    let lang = text::classes::span_end(s, from, Class::Key);
+    let lang = characters::classes::span_end(s, from, Class::Key);
     if byte_at(s, lang) == b']' {
         if from < lang {
             return Named::Name {
@@ -143,7 +142,7 @@ fn postfix(s: &[u8], key: usize) -> Named
 pub fn read_name(s: &[u8]) -> Named
     ensures { λ r. ⌜ r ≡ name.readName (now (s .entry)) ⌝ }
 {
-    let key = text::classes::span_end(s, 0, Class::Key);
+    let key = characters::classes::span_end(s, 0, Class::Key);
     if key == 0 {
         return Named::NoName(0);
     }
@@ -157,15 +156,12 @@ pub fn read_name(s: &[u8]) -> Named
 fn entry_after(s: &[u8], key: usize, name: usize) -> Line
     ensures { λ r. ⌜ r ≡ spec.entryAfter (now (s .entry)) key name ⌝ }
 {
-    let sign = text::classes::span_end(s, name, Class::Space);
+    let sign = characters::classes::span_end(s, name, Class::Space);
     if byte_at(s, sign) != b'=' {
         return Line::Bad(sign);
     }
-    let value = text::classes::span_end(s, sign + 1, Class::Space);
-    if text::utf8::is_surely_value(s, value) {
-        return Line::Entry { key, name, value };
-    }
-    match text::utf8::scan(&s[value..], Content::Value) {
+    let value = characters::classes::span_end(s, sign + 1, Class::Space);
+    match characters::utf8::scan_value(s, value) {
         Scan::Sound => Line::Entry { key, name, value },
         Scan::Fault(n) => Line::Bad(value + n),
     }
@@ -184,7 +180,7 @@ fn read_entry(s: &[u8]) -> Line
 fn read_header(s: &[u8]) -> Line
     ensures { λ r. ⌜ r ≡ spec.readHeader (now (s .entry)) ⌝ }
 {
-    let e = text::classes::span_end(s, 1, Class::Group);
+    let e = characters::classes::span_end(s, 1, Class::Group);
     if e == 1 {
         return Line::Bad(1);
     }
@@ -211,8 +207,8 @@ pub fn read_line(s: &[u8]) -> Line
     if first == b'[' {
         return read_header(s);
     }
-    if text::classes::is_in(Class::Blank, first) {
-        let blank = text::classes::span_end(s, 0, Class::Blank);
+    if characters::classes::is_in(Class::Blank, first) {
+        let blank = characters::classes::span_end(s, 0, Class::Blank);
         if blank == s.len() {
             return Line::Blank;
         }

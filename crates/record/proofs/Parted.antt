@@ -10,7 +10,7 @@ use lib.Seq.{take-append-le, drop-append-le, drop-length, drop-drop, length-take
 use Rattle.base.specs.Lists.{part}
 use Rattle.base.proofs.Lists.{length-part}
 use Rattle.base.proofs.Tests.{no, by-test}
-use Rattle.record.specs.Number.{numberOf}
+use Rattle.record.specs.Number.{numberIn}
 use Rattle.record.specs.Record.{Rec, recordLength, lengthAt, recordAt, whole, cut}
 use Rattle.record.proofs.Place.{whole-if, whole-bounds}
 use Rattle.record.proofs.Sizes.{listLength}
@@ -40,7 +40,7 @@ module _ (x y : List ℕ) (w : whole x ≡ true) where
   front-record =
       let b = whole-bounds x w in
       let c : part 6 (lengthAt (x ++ y)) (x ++ y) ≡ part 6 (lengthAt x) x = rw front-length (front-part 6 (lengthAt x) (b .0) (b .1)) in
-      λ i. record { kind = ap numberOf (front-part 4 6 (omega arith) (omega arith)) i; body = c i }
+      λ i. record { kind = ap numberIn (front-part 4 6 (omega arith) (omega arith)) i; body = c i }
 
   front-whole : whole (x ++ y) ≡ true
   front-whole = let b = whole-bounds x w in let n = front-length in whole-if (x ++ y) (omega (arith, length-append x y)) (omega arith) (omega (arith, length-append x y))

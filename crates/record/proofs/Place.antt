@@ -11,7 +11,7 @@ use lib.Dec.{leb}
 use Rattle.base.specs.Choice.{pick}
 use Rattle.base.proofs.Tests.{no, and-both}
 use Rattle.record.specs.declared.Front.the-variants as front
-use Rattle.record.specs.Number.{numberOf}
+use Rattle.record.specs.Number.{numberIn}
 use Rattle.record.specs.Record.{lengthAt, recordAt, whole}
 use Rattle.record.specs.Walk.{frontAt}
 
@@ -57,7 +57,7 @@ module _ (s : List ℕ) (at : ℕ) where
   unfolding frontAt
   damaged-at e = rw e
 
-  pub record-there : {kind end : ℕ} → whole (drop at s) ≡ true → kind ≡ numberOf (take 2 (drop (at + 4) s)) → end ≡ at + lengthAt (drop at s)
+  pub record-there : {kind end : ℕ} → whole (drop at s) ≡ true → kind ≡ numberIn (take 2 (drop (at + 4) s)) → end ≡ at + lengthAt (drop at s)
       → front.Record kind end ≡ frontAt s at
   unfolding frontAt
   record-there e k n = rw (e, k, n, drop-drop 4 at s)

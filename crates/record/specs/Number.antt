@@ -8,6 +8,6 @@ littleEndian zero n = []
 littleEndian (suc width) n = n % 256 ∷ littleEndian width (n / 256)
 
 -- the number that little-endian bytes are
-unfoldable pub numberOf : List ℕ → ℕ
-numberOf [] = 0
-numberOf (b ∷ bs) = b + 256 * numberOf bs
+unfoldable pub numberIn : List ℕ → ℕ
+numberIn [] = 0
+numberIn (b ∷ bs) = b + 256 * numberIn bs

@@ -8,7 +8,7 @@ use lib.ListN.{length, take}
 use lib.Dec.{eqb, leb}
 use Rattle.base.specs.Choice.{pick, maybe}
 use Rattle.base.specs.Lists.{part, all, joined}
-use Rattle.record.specs.Number.{littleEndian, numberOf}
+use Rattle.record.specs.Number.{littleEndian, numberIn}
 
 -- a record's kind and body
 pub record Rec : Type 0 where
@@ -41,11 +41,11 @@ listOf kind bodies = listBytes (map (λ b. record { kind = kind; body = b }) bod
 
 -- the first record's length
 abbrev pub lengthAt : List ℕ → ℕ
-lengthAt s = numberOf (take 4 s)
+lengthAt s = numberIn (take 4 s)
 
 -- the first record
 abbrev pub recordAt : List ℕ → Rec
-recordAt s = record { kind = numberOf (part 4 6 s); body = part headLength (lengthAt s) s }
+recordAt s = record { kind = numberIn (part 4 6 s); body = part headLength (lengthAt s) s }
 
 -- a whole record stands at the front
 unfoldable pub whole : List ℕ → Bool
@@ -80,7 +80,3 @@ readEach read (r ∷ rs) = maybe (read r) none (λ a. Option·map (λ xs. a ∷ 
 -- the same of the records that fill the bytes; none: damaged
 unfoldable pub readRecords : {A : Type 0} → (Rec → Option A) → List ℕ → Option (List A)
 readRecords read s = maybe (cut s) none (readEach read)
-
--- the most bytes of a list where no other bound is named
-abbrev pub listMost : ℕ
-listMost = 65536

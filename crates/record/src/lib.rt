@@ -5,7 +5,7 @@ ghost use Prim.Native.Nat.{_+_, _≤_, _<_};
 ghost use lib.ListN.{length, take, drop};
 ghost use Rattle.base.specs.Choice.{there};
 ghost use Rattle.base.specs.Over.{over, atFront};
-ghost use Rattle.record.specs.Number.{littleEndian, numberOf};
+ghost use Rattle.record.specs.Number.{littleEndian, numberIn};
 ghost use Rattle.record.specs.Record.{cut, recordLength, headBytes, recordBytes};
 ghost use Rattle.record.specs.Walk.{frontAt, countOf, nthOf};
 
@@ -46,7 +46,7 @@ fn wide16(b: u8) -> u16
 // The number in the two bytes at a place.
 pub fn number2(s: &[u8], at: usize) -> u16
     requires { ⌜ at + 2 ≤ length (now s) ⌝ }
-    ensures { λ r. ⌜ r ≡ numberOf (take 2 (drop at (now (s .entry)))) ⌝ }
+    ensures { λ r. ⌜ r ≡ numberIn (take 2 (drop at (now (s .entry)))) ⌝ }
 {
     wide16(s[at]) + 256 * wide16(s[at + 1])
 }
@@ -54,7 +54,7 @@ pub fn number2(s: &[u8], at: usize) -> u16
 // The number in the four bytes at a place.
 pub fn number4(s: &[u8], at: usize) -> usize
     requires { ⌜ at + 4 ≤ length (now s) ⌝ }
-    ensures { λ r. ⌜ (r ≡ numberOf (take 4 (drop at (now (s .entry))))) × (r < 4294967296) ⌝ }
+    ensures { λ r. ⌜ (r ≡ numberIn (take 4 (drop at (now (s .entry))))) × (r < 4294967296) ⌝ }
 {
     wide(s[at]) + 256 * (wide(s[at + 1]) + 256 * (wide(s[at + 2]) + 256 * wide(s[at + 3])))
 }

@@ -5,10 +5,11 @@ use mathlib.Core.Option.{Option, none, some}
 use mathlib.Core.List.{List}
 use lib.ListN.{length, take, drop}
 use lib.Dec.{eqb, leb}
+use Rattle.base.specs.Bounds.{listMost}
 use Rattle.base.specs.Choice.{pick}
 use Rattle.base.specs.Lists.{part}
-use Rattle.record.specs.Number.{numberOf}
-use Rattle.record.specs.Record.{Rec, readRecords, listMost}
+use Rattle.record.specs.Number.{numberIn}
+use Rattle.record.specs.Record.{Rec, readRecords}
 
 -- what a record asks for: a group, a key with its postfix, and perhaps a text
 pub record Asked : Type 0 where
@@ -18,7 +19,7 @@ pub record Asked : Type 0 where
 
 -- where the field at the front ends: behind its length's 4 bytes and as many as that length says
 abbrev pub fieldEnd : List ℕ → ℕ
-fieldEnd s = 4 + numberOf (take 4 s)
+fieldEnd s = 4 + numberIn (take 4 s)
 
 -- the field at the front and what follows it, handed on; none: it is not whole
 unfoldable pub field : {A : Type 0} → List ℕ → (List ℕ → List ℕ → Option A) → Option A

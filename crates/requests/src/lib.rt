@@ -81,7 +81,7 @@ fn is_request(kind: u16, body: &[u8]) -> bool
 pub fn sound(list: &[u8]) -> bool
     ensures { λ r. ⌜ r ≡ there (readRequests (now (list .entry))) ⌝ }
 {
-    if 65536 < list.len() {
+    if base::LIST_MOST < list.len() {
         return false;
     }
     let mut at: usize = 0;

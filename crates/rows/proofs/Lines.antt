@@ -10,7 +10,7 @@ use lib.Dec.{eqb}
 use borrow.Author.Tests.{eqb-true, eqb-false}
 use Rattle.base.specs.Lists.{same}
 use Rattle.base.proofs.Tests.{no, by-test, same-true}
-use Rattle.text.specs.Class.{keyByte}
+use Rattle.characters.specs.Class.{keyByte}
 use Rattle.line.specs.Name.{byteAt, readName}
 use Rattle.line.specs.Line.{readLine, isBad}
 use Rattle.line.specs.declared.Line.{Line}

@@ -16,7 +16,7 @@ use Rattle.line.specs.Line.{readLine, isBad}
 use Rattle.line.specs.declared.Line.the-variants.{Header}
 use Rattle.rows.specs.Rows.{Row, rows, rowsFrom, readRows, valueStart}
 use Rattle.rows.specs.Title.{Title, Group, Key, sameTitle, findRow}
-use Rattle.rows.specs.Find.{lineLength, noneBad, toldOf, namedAs, insideAfter}
+use Rattle.rows.specs.Find.{lineLength, noneBad, foundOf, namedAs, insideAfter}
 use Rattle.rows.specs.declared.Found.{Found}
 use Rattle.rows.specs.declared.Found.the-variants as found
 use Rattle.rows.proofs.Step.{rowAt, groupNext, titleAt, no-row, start-le, end-le, length-line, line-at, title-at, row-step}
@@ -70,7 +70,7 @@ module _ {s : List ℕ} {f : List Row → Found} {a : Found} {p n : ℕ} (w : Se
   seek-header b = header-good (part p e s) (sym b) seek-good
 
   -- what is told of the row
-  pub seek-told : toldOf (some (rowAt s n p e (w .group))) ≡ found.Row n p e (p + valueStart (readLine (part p e s)))
+  pub seek-told : foundOf (some (rowAt s n p e (w .group))) ≡ found.Row n p e (p + valueStart (readLine (part p e s)))
   seek-told =
       let z : p + length (part p e s) ≡ e = omega (arith, length-line s h q, start-le s h q) in
       rw (line-at s h q, z)
@@ -79,7 +79,7 @@ module _ {s : List ℕ} {f : List Row → Found} {a : Found} {p n : ℕ} (w : Se
 
 -- what is told of the first row of a title
 abbrev pub finding : Title → List Row → Found
-finding t rs = toldOf (findRow rs t)
+finding t rs = foundOf (findRow rs t)
 
 -- no row is left
 pub title-end : (t : Title) {s : List ℕ} {a : Found} {p n : ℕ} → Seek s (finding t) a p n → length s ≤ p → found.Nothing ≡ a

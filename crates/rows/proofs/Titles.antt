@@ -2,12 +2,10 @@
 use mathlib.Core.Path.{_≡_, refl, sym, ap, ap₂, _∙_}
 use Prim.Native.Nat.{ℕ}
 use mathlib.Core.Bool.{Bool, true, false, _&&_, _||_, false≢true}
-use mathlib.Core.Option.{some}
 use mathlib.Core.List.{List, [], _∷_, _++_}
-use Rattle.base.specs.Choice.{maybe}
 use Rattle.base.specs.Lists.{same, any}
 use Rattle.base.proofs.Tests.{and-both, same-refl, same-true, same-sym}
-use Rattle.base.proofs.Search.{there-first, first-append}
+use Rattle.base.proofs.Search.{there-first}
 use Rattle.rows.specs.Rows.{Row}
 use Rattle.rows.specs.Title.{Title, Nameless, Group, Key, title, sameTitle, seeing, titles, findRow, has}
 
@@ -24,10 +22,6 @@ sameTitle-sym (Group g) (Key h l) = refl
 sameTitle-sym (Key g k) Nameless = refl
 sameTitle-sym (Key g k) (Group h) = refl
 sameTitle-sym (Key g k) (Key h l) = ap₂ _&&_ (same-sym g h) (same-sym k l)
-
-pub same-group : (g : List ℕ) → sameTitle (Group g) (Group g) ≡ true
-unfolding sameTitle
-same-group g = same-refl g
 
 pub same-key : (g k : List ℕ) → sameTitle (Key g k) (Key g k) ≡ true
 unfolding sameTitle
@@ -82,7 +76,3 @@ any-title t rs = any-titles (sameTitle t) (nameless t) rs
 pub has-titles : (rs : List Row) (t : Title) → has rs t ≡ any (sameTitle t) (titles rs)
 unfolding findRow
 has-titles rs t = there-first (λ r. sameTitle t (title r)) rs ∙ any-title t rs
-
-pub find-append : (rs ss : List Row) (t : Title) → findRow (rs ++ ss) t ≡ maybe (findRow rs t) (findRow ss t) some
-unfolding findRow
-find-append rs ss t = first-append (λ r. sameTitle t (title r)) rs ss

@@ -14,7 +14,7 @@ use Rattle.base.proofs.Lists.{joined-append}
 use Rattle.line.specs.Line.{readLine}
 use Rattle.rows.specs.Rows.{Row, rows, lineOf, readRows, valueStart}
 use Rattle.rows.specs.Title.{Title, title, sameTitle, findRow}
-use Rattle.rows.specs.Find.{toldOf}
+use Rattle.rows.specs.Find.{foundOf}
 use Rattle.rows.specs.declared.Found.the-variants as told
 use Rattle.rows.proofs.Rows.{joined-rows, row-split, Found, found-first}
 use Rattle.rows.proofs.Lines.{value-le}
@@ -28,11 +28,11 @@ pub record Told (r : Row) (n p e v : ℕ) : Type 0 where
   pub end-is : e ≡ r .start + length (lineOf (r .bytes))
   pub value-is : v ≡ r .start + valueStart (r .reading)
 
-pub told-row : (o : Option Row) (n p e v : ℕ) → toldOf o ≡ told.Row n p e v → (r : Row) × (o ≡ some r) × Told r n p e v
+pub told-row : (o : Option Row) (n p e v : ℕ) → foundOf o ≡ told.Row n p e v → (r : Row) × (o ≡ some r) × Told r n p e v
 told-row none n p e v i = no (cc)
 told-row (some r) n p e v i = (r, refl, record { line-is = cc; start-is = cc; end-is = cc; value-is = cc })
 
-pub told-nothing : (o : Option Row) → toldOf o ≡ told.Nothing → o ≡ none
+pub told-nothing : (o : Option Row) → foundOf o ≡ told.Nothing → o ≡ none
 told-nothing none i = refl
 told-nothing (some r) i = no (cc)
 
@@ -94,7 +94,7 @@ module _ (f : List ℕ) {p : Row → Bool} {r : Row} (w : Found p 0 [] (rows f) 
 
 -- ---- the places told, in their order
 
-pub told-bounds : (f : List ℕ) (t : Title) (n p e v : ℕ) → toldOf (findRow (readRows f) t) ≡ told.Row n p e v → (p ≤ v) × (v ≤ e) × (e ≤ length f)
+pub told-bounds : (f : List ℕ) (t : Title) (n p e v : ℕ) → foundOf (findRow (readRows f) t) ≡ told.Row n p e v → (p ≤ v) × (v ≤ e) × (e ≤ length f)
 told-bounds f t n p e v i =
     let a = told-row (findRow (readRows f) t) n p e v i in
     let w = found-row f t (a .0) (a .1) in

@@ -31,8 +31,8 @@ unfoldable pub noneBad : List ℕ → Bool
 noneBad file = not (any (λ r. isBad (r .reading)) (readRows file))
 
 -- what is told of a row: its number, where it starts, where its line ends, where its value starts
-abbrev pub toldOf : Option Row → Found
-toldOf o = maybe o found.Nothing (λ r. found.Row (r .line) (r .start) (r .start + length (lineOf (r .bytes))) (r .start + valueStart (r .reading)))
+abbrev pub foundOf : Option Row → Found
+foundOf o = maybe o found.Nothing (λ r. found.Row (r .line) (r .start) (r .start + length (lineOf (r .bytes))) (r .start + valueStart (r .reading)))
 
 -- the line's key with its postfix is this one
 abbrev pub namedAs : List ℕ → List ℕ → Named → Bool

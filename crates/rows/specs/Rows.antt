@@ -1,8 +1,8 @@
 -- The rows of a file (01, "Lines of a file"). A row is a line with its LF, which only the last may lack: the rows joined are the file.
 -- Assumes nothing.
 use Prim.Native.Nat.{ℕ, suc, _+_}
-use Prim.Native.Char.{Char, code}
-use mathlib.Core.Bool.{Bool, true, false, not}
+use Prim.Native.Char.{code}
+use mathlib.Core.Bool.{Bool, not}
 use mathlib.Core.Path.{_≡_}
 use mathlib.Core.List.{List, [], _∷_}
 use lib.ListN.{length, drop}

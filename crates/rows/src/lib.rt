@@ -11,7 +11,7 @@ ghost use Rattle.line.specs.Name.{readName};
 ghost use Rattle.line.specs.Line.{readLine, isBad};
 ghost use Rattle.rows.specs.Rows.{readRows, valueStart};
 ghost use Rattle.rows.specs.Title as title;
-ghost use Rattle.rows.specs.Find.{noLF, lineLength, noneBad, toldOf, namedAs, insideAfter};
+ghost use Rattle.rows.specs.Find.{noLF, lineLength, noneBad, foundOf, namedAs, insideAfter};
 
 // A row of a file: its number, where it starts, where its line ends, where its value starts (an entry's; else the row's start).
 pub enum Found {
@@ -159,7 +159,7 @@ pub fn is_inside(l: &[u8], group: &[u8], inside: bool) -> bool
 // The first row of a key with its postfix in a group, in a file without bad lines.
 pub fn find_key(file: &[u8], group: &[u8], key: &[u8]) -> Found
     requires { ⌜ noneBad (now file) ≡ true ⌝ }
-    ensures { λ r. ⌜ r ≡ toldOf (title.findRow (readRows (now (file .entry))) (title.Key (now (group .entry)) (now (key .entry)))) ⌝ }
+    ensures { λ r. ⌜ r ≡ foundOf (title.findRow (readRows (now (file .entry))) (title.Key (now (group .entry)) (now (key .entry)))) ⌝ }
 {
     let mut p: usize = 0;
     let mut n: usize = 1;
@@ -201,7 +201,7 @@ fn is_joined(s: &[u8], front: &[u8], rest: &[u8]) -> bool
 // The header of a group whose name is two parts, one after the other, in a file without bad lines.
 pub fn find_group(file: &[u8], front: &[u8], rest: &[u8]) -> Found
     requires { ⌜ noneBad (now file) ≡ true ⌝ }
-    ensures { λ r. ⌜ r ≡ toldOf (title.findRow (readRows (now (file .entry))) (title.Group (now (front .entry) ++ now (rest .entry)))) ⌝ }
+    ensures { λ r. ⌜ r ≡ foundOf (title.findRow (readRows (now (file .entry))) (title.Group (now (front .entry) ++ now (rest .entry)))) ⌝ }
 {
     let mut p: usize = 0;
     let mut n: usize = 1;

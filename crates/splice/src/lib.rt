@@ -2,7 +2,7 @@
 ghost use mathlib.Core.Path.{_≡_};
 ghost use Prim.Native.Nat.{_+_, _-_, _≤_};
 ghost use lib.ListN.{length, take, drop, replicate};
-ghost use Rattle.base.specs.Over.{over};
+ghost use Rattle.base.specs.Over.{over, WroteAt};
 ghost use Rattle.splice.specs.Edit.{replaced, standsAt, bufferWith};
 
 // Whether these bytes stand at a place, all inside the file.
@@ -25,12 +25,13 @@ pub fn stands(file: &[u8], place: usize, old: &[u8]) -> bool
     true
 }
 
-// Bytes written from a place on.
-pub fn write(buffer: &mut [u8], place: usize, new: &[u8])
+// Bytes written from a place on; the answer is where they end.
+pub fn write(buffer: &mut [u8], place: usize, new: &[u8]) -> usize
     requires { ⌜ place + length (now new) ≤ length (now buffer) ⌝ }
-    ensures { λ _. ⌜ now (buffer .exit) ≡ over (now (buffer .entry)) place (now (new .entry)) ⌝ }
+    ensures { λ r. ⌜ WroteAt (now (buffer .entry)) place (now (new .entry)) r (now (buffer .exit)) ⌝ }
 {
     bytes::copy(new, &mut buffer[place..]);
+    place + new.len()
 }
 
 // The n bytes from a place on, moved to a lower place, the first byte first. It becomes moves of sixteen bytes.

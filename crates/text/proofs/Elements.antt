@@ -15,6 +15,7 @@ use Rattle.base.specs.Over.{over, atFront}
 use Rattle.base.proofs.Scan.{done}
 use Rattle.base.proofs.Tests.{no}
 use Rattle.base.proofs.Fill.{Fill, fill-start, fill-length, fill-as, fill-over, fill-end}
+use Rattle.characters.specs.Bare.{bareLength}
 use Rattle.fault.specs.declared.Fault.{Fault}
 use Rattle.fault.specs.declared.Fault.the-variants.{BadEscape, NoRoom}
 use Rattle.fault.specs.Answer.{Answer, given, refused, _>>=_, need, then, accepted}
@@ -103,7 +104,7 @@ Split s taken = rawElements s taken ≡ take (elementLength s taken) s ∷ rawEl
 -- a byte before a first element
 one-more : (b : ℕ) (bs : List ℕ) (taken : Bool) → (0 < length bs → Split bs taken)
     → before b (rawElements bs taken) ≡ take (suc (elementLength bs taken)) (b ∷ bs) ∷ rawElements (drop (suc (elementLength bs taken) + 1) (b ∷ bs)) false
-unfolding rawElements elementLength
+unfolding rawElements bareLength
 one-more b [] taken ih = refl
 one-more b (c ∷ cs) taken ih =
     let n : ℕ = elementLength (c ∷ cs) taken in
@@ -112,7 +113,7 @@ one-more b (c ∷ cs) taken ih =
     rw (ih h, k)
 
 first-element : (s : List ℕ) (taken : Bool) → 0 < length s → Split s taken
-unfolding rawElements elementLength
+unfolding rawElements bareLength
 first-element [] taken h = absurd (omega arith)
 first-element (b ∷ bs) true h = one-more b bs false (first-element bs false)
 first-element (b ∷ bs) false h = go (eqb b 59) (first-element bs (eqb b 92))
@@ -124,7 +125,7 @@ first-element (b ∷ bs) false h = go (eqb b 59) (first-element bs (eqb b 92))
     go false ih = one-more b bs (eqb b 92) ih
 
 element-within : (s : List ℕ) (taken : Bool) → elementLength s taken ≤ length s
-unfolding elementLength
+unfolding bareLength
 element-within [] taken = omega arith
 element-within (b ∷ bs) true = let h = element-within bs false in omega arith
 element-within (b ∷ bs) false = go (eqb b 59) (element-within bs (eqb b 92))
@@ -186,30 +187,30 @@ unfolding spendAll
 spend-cons room t (given ts) = refl
 spend-cons room t (refused f) = refl
 
-pub record Sparing (raw : List ℕ) (room i : ℕ) (rest : Left) : Type 0 where
+pub record RoomLeft (raw : List ℕ) (room i : ℕ) (rest : Left) : Type 0 where
   pub goes : then (spendAll rest) (elementsAt raw i) ≡ then (spendAll (left.Bytes room)) (elementsOf raw)
 
-pub spare-start : (raw : List ℕ) (room : ℕ) → Sparing raw room 0 (left.Bytes room)
+pub room-start : (raw : List ℕ) (room : ℕ) → RoomLeft raw room 0 (left.Bytes room)
 unfolding elementsOf
-spare-start raw room = record { goes = refl }
+room-start raw room = record { goes = refl }
 
-module _ {raw : List ℕ} {room i : ℕ} {rest : Left} (s : Sparing raw room i rest) where
-  pub spare-end : length raw ≤ i → given rest ≡ then (spendAll (left.Bytes room)) (elementsOf raw)
+module _ {raw : List ℕ} {room i : ℕ} {rest : Left} (s : RoomLeft raw room i rest) where
+  pub room-end : length raw ≤ i → given rest ≡ then (spendAll (left.Bytes room)) (elementsOf raw)
   unfolding spendAll
-  spare-end h = rw (elements-done raw i h) at (s .goes)
+  room-end h = rw (elements-done raw i h) at (s .goes)
 
   module _ {e : ℕ} (h : i < length raw) (q : e ≡ i + elementLength (drop i raw) false) where
-    pub spare-wrong : {p : ℕ} → refused (BadEscape p) ≡ then length (own raw i h q) → refused (BadEscape (i + p)) ≡ then (spendAll (left.Bytes room)) (elementsOf raw)
-    spare-wrong {p} w = rw (element-wrong raw i h q (then-refused length (own raw i h q) w)) at (s .goes)
+    pub room-wrong : {p : ℕ} → refused (BadEscape p) ≡ then length (own raw i h q) → refused (BadEscape (i + p)) ≡ then (spendAll (left.Bytes room)) (elementsOf raw)
+    room-wrong {p} w = rw (element-wrong raw i h q (then-refused length (own raw i h q) w)) at (s .goes)
 
     -- its place is inside
-    pub spare-place : {p : ℕ} → refused (BadEscape p) ≡ then length (own raw i h q) → i + p ≤ length raw
-    spare-place {p} w =
+    pub room-place : {p : ℕ} → refused (BadEscape p) ≡ then length (own raw i h q) → i + p ≤ length raw
+    room-place {p} w =
         let b = wrong-within escapes.List (element raw i h q) 0 (then-refused length (own raw i h q) w) in
         omega (arith, long raw i h q, element-end raw i h q)
 
-    pub spare-next : {n : ℕ} {rest′ : Left} → given n ≡ then length (own raw i h q) → rest′ ≡ spendRecord rest n → Sparing raw room (e + 1) rest′
-    spare-next {n} w r =
+    pub room-next : {n : ℕ} {rest′ : Left} → given n ≡ then length (own raw i h q) → rest′ ≡ spendRecord rest n → RoomLeft raw room (e + 1) rest′
+    room-next {n} w r =
         let g = given-length (own raw i h q) n w in
         record { goes = rw (r, g .1) (sym (spend-cons rest (textOf (own raw i h q)) (elementsAt raw (e + 1))) ∙ rw (element-read raw i h q (g .0)) at (s .goes)) }
 

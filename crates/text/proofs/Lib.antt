@@ -1,12 +1,7 @@
-pub mod Utf8Laws
-pub mod Characters
 pub mod OutputLaws
 pub mod Reading
 pub mod Writing
 pub mod Elements
-pub mod Room
+pub mod RoomLaws
 pub mod ReadBack
 pub mod Values
-pub mod Endings
-pub mod Letters
-pub mod Windows

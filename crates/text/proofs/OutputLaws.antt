@@ -10,12 +10,12 @@ use Rattle.base.proofs.Tests.{no}
 use Rattle.fault.specs.declared.Fault.{Fault}
 use Rattle.fault.specs.declared.Fault.the-variants.{NoRoom}
 use Rattle.fault.specs.Answer.{Answer, given, refused, then, accepted}
-use Rattle.text.specs.Output.{told, held}
+use Rattle.text.specs.Output.{writtenLength, held}
 use Rattle.text.specs.Step.{textOf}
 
 -- what the caller is told and what the output holds
 abbrev pub Leaves : Answer (List ℕ) → List ℕ → Answer ℕ → List ℕ → Type 0
-Leaves a out r out′ = (r ≡ told a out) × (out′ ≡ held a out)
+Leaves a out r out′ = (r ≡ writtenLength a out) × (out′ ≡ held a out)
 
 -- an answer whose length is told is given
 pub given-length : (a : Answer (List ℕ)) (n : ℕ) → given n ≡ then length a → (accepted a ≡ true) × (n ≡ length (textOf a))

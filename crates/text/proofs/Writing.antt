@@ -1,6 +1,6 @@
 -- The raw value of a text, a byte of the text at a time. Assumes nothing.
-use mathlib.Core.Path.{_≡_, refl, sym, ap, _∙_}
-use Prim.Native.Nat.{ℕ, zero, suc, _+_, _*_, _≤_, _<_}
+use mathlib.Core.Path.{_≡_, refl, ap, _∙_}
+use Prim.Native.Nat.{ℕ, _+_, _*_, _≤_, _<_}
 use native.Mathlib.Omega.{arith}
 use mathlib.Core.Bool.{Bool, true, false}
 use mathlib.Core.Option.{none, some}
@@ -12,12 +12,12 @@ use Rattle.base.specs.Choice.{pick}
 use Rattle.base.specs.Lists.{ascii}
 use Rattle.base.specs.Over.{atFront}
 use Rattle.base.proofs.Scan.{here, done}
-use Rattle.base.proofs.Fill.{Fill, fill-start, fill-length, fill-as, fill-byte, fill-end}
+use Rattle.base.proofs.Fill.{Fill, fill-length, fill-as, fill-byte, fill-end}
 use Rattle.fault.specs.declared.Fault.the-variants.{UnfitText}
 use Rattle.fault.specs.Answer.{given, refused}
-use Rattle.text.specs.Class.{textByte}
-use Rattle.text.specs.Utf8.{textFault}
-use Rattle.text.specs.declared.Due.the-variants.{Start}
+use Rattle.characters.specs.Class.{textByte}
+use Rattle.characters.specs.Utf8.{textFault}
+use Rattle.characters.specs.declared.Due.the-variants.{Start}
 use Rattle.text.specs.Escape.{escaped, escapedAll, rawText, fitText, writeText}
 use Rattle.text.specs.Step.{letter, letterOf}
 

@@ -1,6 +1,6 @@
 -- Value lists (01, "Language, escapes, lists"). Assumes nothing.
 use Prim.Native.Nat.{ℕ, _+_}
-use Prim.Native.Char.{Char, code}
+use Prim.Native.Char.{code}
 use mathlib.Core.Bool.{Bool, true, false}
 use mathlib.Core.List.{List, [], _∷_}
 use lib.ListN.{length}
@@ -8,7 +8,7 @@ use lib.Dec.{eqb, ltb}
 use Rattle.base.specs.Choice.{pick}
 use Rattle.base.specs.Lists.{all, before}
 use Rattle.fault.specs.declared.Fault.the-variants.{NoRoom}
-use Rattle.fault.specs.Answer.{Answer, given, refused, _>>=_, need}
+use Rattle.fault.specs.Answer.{Answer, given, _>>=_, need}
 use Rattle.record.specs.Record.{recordLength, listOf}
 use Rattle.text.specs.Escape.{textFrom}
 use Rattle.text.specs.declared.Escapes.the-variants as escapes

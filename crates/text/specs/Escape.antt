@@ -1,6 +1,6 @@
 -- Text read from a raw value and written as one (01, "Language, escapes, lists"). Assumes nothing.
 use Prim.Native.Nat.{ℕ, _+_}
-use Prim.Native.Char.{Char, code}
+use Prim.Native.Char.{code}
 use mathlib.Core.Bool.{Bool, true, false}
 use mathlib.Core.Option.{Option, none, some}
 use mathlib.Core.List.{List, [], _∷_, _++_}
@@ -9,8 +9,8 @@ use Rattle.base.specs.Choice.{pick, maybe}
 use Rattle.base.specs.Lists.{ascii}
 use Rattle.fault.specs.declared.Fault.the-variants.{BadEscape, UnfitText}
 use Rattle.fault.specs.Answer.{Answer, given, refused, _>>=_, need, then}
-use Rattle.text.specs.Class.{textByte}
-use Rattle.text.specs.Utf8.{isText}
+use Rattle.characters.specs.Class.{textByte}
+use Rattle.characters.specs.Utf8.{isText}
 use Rattle.text.specs.declared.Escapes.{Escapes}
 use Rattle.text.specs.declared.Escapes.the-variants as escapes
 

@@ -16,9 +16,9 @@ answered (written.Bytes n) = given n
 answered (written.Refused f) = refused f
 
 -- how many bytes are written, or the refusal; 11 where there is no room
-abbrev pub told : Answer (List ℕ) → List ℕ → Answer ℕ
-told (given s) out = pick (leb (length s) (length out)) (given (length s)) (refused NoRoom)
-told (refused f) out = refused f
+abbrev pub writtenLength : Answer (List ℕ) → List ℕ → Answer ℕ
+writtenLength (given s) out = pick (leb (length s) (length out)) (given (length s)) (refused NoRoom)
+writtenLength (refused f) out = refused f
 
 -- what the output then holds: the bytes at its start and the rest as it was; a refusal writes nothing
 abbrev pub held : Answer (List ℕ) → List ℕ → List ℕ

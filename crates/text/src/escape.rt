@@ -1,7 +1,7 @@
 // Escapes: text from raw bytes and raw bytes from text.
+use crate::Decoded;
 use crate::Escapes;
 use crate::Measure;
-use crate::Piece;
 ghost use mathlib.Core.Path.{_≡_};
 ghost use mathlib.Core.Bool.{true, false};
 ghost use Prim.Native.Nat.{_≤_, _<_};
@@ -10,54 +10,54 @@ ghost use lib.Dec.{eqb};
 ghost use Rattle.base.specs.Over.{atFront};
 ghost use Rattle.fault.specs.Answer.{accepted, then};
 ghost use Rattle.text.specs.Escape as spec;
-ghost use Rattle.text.specs.Step.{pairOf, pieceOf, measured, textOf, letterOf};
+ghost use Rattle.text.specs.Step.{pairOf, decodedOf, measured, textOf, letterOf};
 
 // The byte that a backslash with this one stands for in text, with the two raw bytes it takes.
-fn text_pair(c: u8) -> Piece
+fn text_pair(c: u8) -> Decoded
     ensures { λ r. ⌜ r ≡ pairOf (spec.textEscape c) ⌝ }
 {
     if c == b's' {
-        return Piece::Byte {
+        return Decoded::Byte {
             byte: b' ',
             width: 2,
         };
     }
     if c == b'n' {
-        return Piece::Byte {
+        return Decoded::Byte {
             byte: b'\n',
             width: 2,
         };
     }
     if c == b't' {
-        return Piece::Byte {
+        return Decoded::Byte {
             byte: b'\t',
             width: 2,
         };
     }
     if c == b'r' {
-        return Piece::Byte {
+        return Decoded::Byte {
             byte: b'\r',
             width: 2,
         };
     }
     if c == b'\\' {
-        return Piece::Byte {
+        return Decoded::Byte {
             byte: b'\\',
             width: 2,
         };
     }
-    Piece::Wrong
+    Decoded::Wrong
 }
 
 // The same where the escapes of text or of a list are known.
-fn pair(k: Escapes, c: u8) -> Piece
+fn pair(k: Escapes, c: u8) -> Decoded
     ensures { λ r. ⌜ r ≡ pairOf (spec.escape k c) ⌝ }
 {
     match k {
         Escapes::Text => text_pair(c),
         Escapes::List => {
             if c == b';' {
-                return Piece::Byte {
+                return Decoded::Byte {
                     byte: b';',
                     width: 2,
                 };
@@ -68,17 +68,17 @@ fn pair(k: Escapes, c: u8) -> Piece
 }
 
 // The byte of the text that begins at a place.
-fn piece(raw: &[u8], i: usize, k: Escapes) -> Piece
+fn decode(raw: &[u8], i: usize, k: Escapes) -> Decoded
     requires { ⌜ i < length (now raw) ⌝ }
-    ensures { λ r. ⌜ r ≡ pieceOf k (drop i (now (raw .entry))) ⌝ }
+    ensures { λ r. ⌜ r ≡ decodedOf k (drop i (now (raw .entry))) ⌝ }
 {
     let b = raw[i];
     if b != b'\\' {
-        return Piece::Byte { byte: b, width: 1 };
+        return Decoded::Byte { byte: b, width: 1 };
     }
     let j = i + 1;
     if raw.len() <= j {
-        return Piece::Wrong;
+        return Decoded::Wrong;
     }
     let c = raw[j];
     pair(k, c)
@@ -91,19 +91,19 @@ pub fn text_length(raw: &[u8], k: Escapes) -> Measure
     let mut i: usize = 0;
     let mut n: usize = 0;
     while i < raw.len() {
-        match piece(raw, i, k) {
-            Piece::Byte { byte: _, width } => {
+        match decode(raw, i, k) {
+            Decoded::Byte { byte: _, width } => {
                 i += width;
                 n += 1;
             }
-            Piece::Wrong => return Measure::Wrong(i),
+            Decoded::Wrong => return Measure::Wrong(i),
         }
     }
     Measure::Length(n)
 }
 
 // The text of raw bytes at the start of an output that has room for it.
-pub fn unescape(raw: &[u8], k: Escapes, out: &mut [u8]) -> usize
+pub(crate) fn unescape(raw: &[u8], k: Escapes, out: &mut [u8]) -> usize
     requires { ⌜ (accepted (spec.textFrom k (now raw) false 0) ≡ true) × (length (textOf (spec.textFrom k (now raw) false 0)) ≤ length (now out)) ⌝ }
     ensures { λ r. ⌜ (r ≡ length (textOf (spec.textFrom k (now (raw .entry)) false 0)))
         × (now (out .exit) ≡ atFront (now (out .entry)) (textOf (spec.textFrom k (now (raw .entry)) false 0))) ⌝ }
@@ -111,13 +111,13 @@ pub fn unescape(raw: &[u8], k: Escapes, out: &mut [u8]) -> usize
     let mut i: usize = 0;
     let mut n: usize = 0;
     while i < raw.len() {
-        match piece(raw, i, k) {
-            Piece::Byte { byte, width } => {
+        match decode(raw, i, k) {
+            Decoded::Byte { byte, width } => {
                 out[n] = byte;
                 i += width;
                 n += 1;
             }
-            Piece::Wrong => return n,
+            Decoded::Wrong => return n,
         }
     }
     n

@@ -1,54 +1,16 @@
-// Text in raw values: which bytes may stand where, UTF-8, escapes and value lists.
-pub mod classes; // classes.rt: classes of bytes
-pub mod utf8; // utf8.rt: UTF-8
+// Text in raw values: escapes and value lists.
 pub mod escape; // escape.rt: text from raw bytes and back
 pub mod list; // list.rt: the elements of a value list
 
+use characters::Content;
+use characters::Scan;
+use characters::utf8;
 use fault::Fault;
 ghost use mathlib.Core.Path.{_≡_};
 ghost use Rattle.text.specs.Escape.{readText, writeText};
 ghost use Rattle.text.specs.Element.{readElements};
-ghost use Rattle.text.specs.Output.{answered, told, held};
+ghost use Rattle.text.specs.Output.{answered, writtenLength, held};
 ghost use Rattle.text.specs.Step as step;
-
-// A class of bytes. A locale's part is made of the bytes of a key.
-pub enum Class {
-    Key,
-    Group,
-    Space,
-    Blank,
-}
-
-// Which ASCII bytes stand beside the others: those of a value, or those of text to set.
-pub enum Content {
-    Value,
-    Text,
-}
-
-// What UTF-8 has yet to bring: nothing, as a character may begin, or the rest of one that was begun, a byte from low to high and after it
-// so many from 0x80 to 0xBF.
-pub enum Due {
-    Start,
-    Tail { more: u8, low: u8, high: u8 },
-}
-
-// What is due after a byte; none where no text goes on so.
-pub enum Next {
-    Is(Due),
-    Stop,
-}
-
-// Where a character ends, or where it does not go on.
-pub enum Rest {
-    End(usize),
-    Fault(usize),
-}
-
-// Whether bytes are text, or where they stop to be.
-pub enum Scan {
-    Sound,
-    Fault(usize),
-}
 
 // Which escapes are known: those of text, or those of a list's element.
 pub enum Escapes {
@@ -57,7 +19,7 @@ pub enum Escapes {
 }
 
 // The first byte of a text, and how many raw bytes it takes.
-pub enum Piece {
+pub enum Decoded {
     Byte { byte: u8, width: usize },
     Wrong,
 }
@@ -75,8 +37,8 @@ pub enum Left {
 }
 
 // How much room a list leaves, or where an escape in it is wrong.
-pub enum Spared {
-    Is(Left),
+pub enum Room {
+    Left(Left),
     Wrong(usize),
 }
 
@@ -103,7 +65,7 @@ pub fn spend(left: Left, n: usize) -> Left
 
 // The text of a raw value: 9, then 11.
 pub fn read_text(raw: &[u8], out: &mut [u8]) -> Written
-    ensures answer { λ r. ⌜ answered r ≡ told (readText (now (raw .entry))) (now (out .entry)) ⌝ }
+    ensures answer { λ r. ⌜ answered r ≡ writtenLength (readText (now (raw .entry))) (now (out .entry)) ⌝ }
     ensures output { λ _. ⌜ now (out .exit) ≡ held (readText (now (raw .entry))) (now (out .entry)) ⌝ }
 {
     match escape::text_length(raw, Escapes::Text) {
@@ -119,7 +81,7 @@ pub fn read_text(raw: &[u8], out: &mut [u8]) -> Written
 
 // The raw value of a text: 10, then 11.
 pub fn write_text(text: &[u8], out: &mut [u8]) -> Written
-    ensures answer { λ r. ⌜ answered r ≡ told (writeText (now (text .entry))) (now (out .entry)) ⌝ }
+    ensures answer { λ r. ⌜ answered r ≡ writtenLength (writeText (now (text .entry))) (now (out .entry)) ⌝ }
     ensures output { λ _. ⌜ now (out .exit) ≡ held (writeText (now (text .entry))) (now (out .entry)) ⌝ }
 {
     match utf8::scan(text, Content::Text) {
@@ -136,12 +98,12 @@ pub fn write_text(text: &[u8], out: &mut [u8]) -> Written
 
 // The elements of a raw value as records of kind 2: 9, then 11.
 pub fn read_list(raw: &[u8], out: &mut [u8]) -> Written
-    ensures answer { λ r. ⌜ answered r ≡ told (readElements (now (raw .entry))) (now (out .entry)) ⌝ }
+    ensures answer { λ r. ⌜ answered r ≡ writtenLength (readElements (now (raw .entry))) (now (out .entry)) ⌝ }
     ensures output { λ _. ⌜ now (out .exit) ≡ held (readElements (now (raw .entry))) (now (out .entry)) ⌝ }
 {
-    match list::spare(raw, out.len()) {
-        Spared::Wrong(at) => Written::Refused(Fault::BadEscape { at }),
-        Spared::Is(left) => match left {
+    match list::room_after(raw, out.len()) {
+        Room::Wrong(at) => Written::Refused(Fault::BadEscape { at }),
+        Room::Left(left) => match left {
             Left::Short => Written::Refused(Fault::NoRoom),
             Left::Bytes(_) => Written::Bytes(list::write(raw, out)),
         },

@@ -2,7 +2,7 @@
 use crate::Escapes;
 use crate::Left;
 use crate::Measure;
-use crate::Spared;
+use crate::Room;
 use crate::escape;
 ghost use mathlib.Core.Path.{_≡_};
 ghost use mathlib.Core.Bool.{true, false};
@@ -15,27 +15,6 @@ ghost use Rattle.text.specs.Escape.{textFrom};
 ghost use Rattle.text.specs.Element.{elementsOf};
 ghost use Rattle.text.specs.Step as spec;
 
-// Where the raw element that begins at a place ends: at its `;`, or at the end.
-pub fn element_end(raw: &[u8], from: usize) -> usize
-    ensures { λ r. ⌜ r ≡ from + spec.elementLength (drop from (now (raw .entry))) false ⌝ }
-{
-    let mut i = from;
-    let mut taken = false;
-    while i < raw.len() {
-        if taken {
-            taken = false;
-            i += 1;
-        } else {
-            if raw[i] == b';' {
-                return i;
-            }
-            taken = raw[i] == b'\\';
-            i += 1;
-        }
-    }
-    i
-}
-
 // The room left after a record whose body has n bytes.
 fn spend_record(left: Left, n: usize) -> Left
     ensures { λ r. ⌜ r ≡ spec.spendRecord left n ⌝ }
@@ -47,22 +26,22 @@ fn spend_record(left: Left, n: usize) -> Left
 }
 
 // The room that the elements' records leave, or where an escape is wrong.
-pub fn spare(raw: &[u8], room: usize) -> Spared
-    ensures { λ r. ⌜ spec.spared r ≡ then (spec.spendAll (Left.Bytes room)) (elementsOf (now (raw .entry))) ⌝ }
+pub fn room_after(raw: &[u8], room: usize) -> Room
+    ensures { λ r. ⌜ spec.roomOf r ≡ then (spec.spendAll (Left.Bytes room)) (elementsOf (now (raw .entry))) ⌝ }
 {
     let mut left = Left::Bytes(room);
     let mut i: usize = 0;
     while i < raw.len() {
-        let e = element_end(raw, i);
+        let e = characters::classes::bare_end(raw, i, b';');
         match escape::text_length(&raw[i..e], Escapes::List) {
-            Measure::Wrong(at) => return Spared::Wrong(i + at),
+            Measure::Wrong(at) => return Room::Wrong(i + at),
             Measure::Length(n) => {
                 left = spend_record(left, n);
                 i = e + 1;
             }
         }
     }
-    Spared::Is(left)
+    Room::Left(left)
 }
 
 // The record of a raw value's text through the part of the output that starts at a place; the answer is where it ends.
@@ -86,7 +65,7 @@ pub fn write(raw: &[u8], out: &mut [u8]) -> usize
     let mut i: usize = 0;
     let mut at: usize = 0;
     while i < raw.len() {
-        let e = element_end(raw, i);
+        let e = characters::classes::bare_end(raw, i, b';');
         at = put(&raw[i..e], Escapes::List, out, at);
         i = e + 1;
     }

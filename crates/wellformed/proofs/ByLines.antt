@@ -6,6 +6,7 @@ use mathlib.Core.List.{List, [], _∷_, _++_}
 use lib.ListN.{length}
 use lib.Dec.{leb}
 use borrow.Author.Tests.{not-true}
+use Rattle.base.specs.Bounds.{fileMost}
 use Rattle.base.specs.Lists.{any}
 use Rattle.base.proofs.Search.{any-middle, any-as}
 use Rattle.base.proofs.Tests.{and-both}
@@ -13,7 +14,7 @@ use Rattle.rows.specs.Rows.{Row, readRows}
 use Rattle.rows.specs.Title.{Title, Nameless, Group, Key, title, sameTitle, titles}
 use Rattle.rows.proofs.Titles.{sameTitle-sym, any-titles, has-titles}
 use Rattle.rows.proofs.Sight.{titlesIn, badLine, linesOf, titles-file, bad-file}
-use Rattle.wellformed.specs.Check.{fileMost, plainOf, plainTitle, wanted, noPlain}
+use Rattle.wellformed.specs.Check.{plainOf, plainTitle, wanted, noPlain}
 use Rattle.wellformed.specs.WellFormed.{leads, distinct, wellFormedAs}
 
 -- ---- titles

@@ -2,40 +2,58 @@
 use mathlib.Core.Path.{_≡_, refl, sym, ap, _∙_}
 use Prim.Native.Nat.{ℕ, _+_, _%_, _≤_, _<_}
 use native.Mathlib.Omega.{arith}
-use mathlib.Core.Bool.{Bool, true, false, not, _&&_, _||_, false≢true}
+use mathlib.Core.Bool.{Bool, true, false, not, _||_, false≢true}
 use mathlib.Core.Option.{Option, none, some}
-use mathlib.Core.List.{List, [], _∷_, _++_}
+use mathlib.Core.List.{List, [], _∷_}
 use lib.ListN.{length, take, drop}
 use lib.Dec.{eqb}
 use borrow.Author.Tests.{eq-eqb, ne-eqb, eqb-true, eqb-false}
-use Rattle.base.specs.Choice.{pick, maybe, there}
-use Rattle.base.specs.Lists.{same, part, any, first}
+use Rattle.base.specs.Choice.{pick, maybe}
+use Rattle.base.specs.Lists.{part, any}
 use Rattle.base.proofs.Tests.{no, by-test}
 use Rattle.fault.specs.declared.Fault.{Fault}
-use Rattle.fault.specs.declared.Fault.the-variants.{BadLine, FirstGroup, RepeatedGroup, RepeatedKey}
-use Rattle.fault.specs.Answer.{Answer, given, refused, _>>=_, need, unless}
+use Rattle.fault.specs.declared.Fault.the-variants.{FirstGroup, RepeatedGroup, RepeatedKey}
+use Rattle.fault.specs.Answer.{given, refused, need, unless}
+use Rattle.fault.proofs.Answers.{unless-refused}
 use Rattle.line.specs.Line.{readLine, isBad}
 use Rattle.line.specs.declared.Line.{Line}
 use Rattle.line.specs.declared.Line.the-variants.{Blank, Comment, Header, Entry, Bad}
-use Rattle.marks.specs.Marks.{marked, withMark}
-use Rattle.rows.specs.Rows.{Row, rows, lineOf, groupAfter, rowsFrom, readRows}
+use Rattle.marks.proofs.Table.{mark-length}
+use Rattle.rows.specs.Rows.{Row, rows, groupAfter, rowsFrom, readRows}
 use Rattle.rows.specs.Title.{Title, Nameless, Group, Key, titleOf, title, sameTitle, seeing, findRow, has}
 use Rattle.rows.specs.Find.{lineLength, noneBad}
 use Rattle.base.proofs.Search.{there-first}
 use Rattle.rows.proofs.Titles.{nameless}
-use Rattle.rows.proofs.Step.{rowAt, groupNext, no-row, line-at, row-step, Prefix, prefix-start, prefix-end, prefix-read, prefix-next}
+use Rattle.rows.proofs.Step.{rowAt, groupNext, titleAt, no-row, title-at, row-step, Prefix, prefix-start, prefix-end, prefix-read, prefix-next}
 use Rattle.wellformed.specs.Check.{titleFault, rowFault, earliest, isGroup, titledAs}
-use Rattle.wellformed.specs.Pass.{verdictOf}
-use Rattle.wellformed.specs.declared.Verdict.{Verdict}
-use Rattle.wellformed.specs.declared.Verdict.the-variants as verdict
+use Rattle.wellformed.specs.Pass.{titleAfter, rowAfter, MarksTell, marksWith}
 use Rattle.wellformed.proofs.Lists.{or-false, or-true, or-comm, any-last}
+use Rattle.wellformed.proofs.Places.{tagAfter}
 use Rattle.wellformed.proofs.Known.{Known, known-start, known-header, known-entry}
 
--- the fault that a verdict stands for
-abbrev faultOf : Verdict → Fault → Fault → Option Fault
-faultOf verdict.Fine first again = none
-faultOf verdict.First first again = some first
-faultOf verdict.Again first again = some again
+-- what a fault that is asked by a test is told as
+told-none : (b : Bool) (f : Fault) → unless (pick b none (some f)) ≡ need b f
+told-none true f = refl
+told-none false f = refl
+
+told-some : (b : Bool) (f : Fault) → unless (pick b (some f) none) ≡ need (not b) f
+told-some true f = refl
+told-some false f = refl
+
+-- no fault
+unless-none : (o : Option Fault) → given tt ≡ unless o → o ≡ none
+unless-none none e = refl
+unless-none (some f) e = no (cc)
+
+-- a title without fault is new, and the first is no key's
+fault-new : (leading : List ℕ) (seen : List Title) (t : Title) (n : ℕ) (again : Fault) → titleFault leading seen t n again ≡ none → any (sameTitle t) seen ≡ false
+unfolding titleFault any
+fault-new leading [] t n again e = refl
+fault-new leading (s ∷ seen) t n again e = by-test (any (sameTitle t) (s ∷ seen)) (λ y. let z : some again ≡ none = rw y at e in no (cc)) (λ f. f)
+
+key-later : (leading g k : List ℕ) (n : ℕ) (again : Fault) → titleFault leading [] (Key g k) n again ≡ none → ⊥
+unfolding titleFault sameTitle
+key-later leading g k n again e = no (cc)
 
 -- some row has this title
 abbrev seenIn : List Row → Title → Bool
@@ -55,6 +73,11 @@ unfolding readRows rows rowsFrom any
 checking-start leading file m h =
     record { seen = []; known = known-start m h; prefix = prefix-start file; good = refl; as-seen = λ t. refl; headed = refl; goes = refl }
 
+pub marks-length : (m : List ℕ) (tag : ℕ) (t : Title) → length (marksWith m tag t) ≡ length m
+marks-length m tag Nameless = refl
+marks-length m tag (Group g) = mark-length m 0 g
+marks-length m tag (Key g k) = mark-length m tag k
+
 -- ---- one title more
 
 seeing-any : (t u : Title) (seen : List Title) → any (sameTitle t) (seeing u seen) ≡ (any (sameTitle t) seen || sameTitle t u)
@@ -71,126 +94,98 @@ module _ {leading file m : List ℕ} {p n tag : ℕ} {group : List ℕ} (c : Che
   unfolding findRow
   has-seen t = there-first (λ r. sameTitle t (title r)) (readRows (take p file)) ∙ sym (c .as-seen t)
 
-  -- what marks say
-  pub no-such-group : (x : List ℕ) → marked m 0 x ≡ false → has (readRows (take p file)) (Group x) ≡ false
-  no-such-group x e = has-seen (Group x) ∙ c .known .groups x e
+  -- what the marks tell
+  pub marks-tell : MarksTell m tag group (readRows (take p file))
+  marks-tell = record {
+    words = c .known .words;
+    groups = λ x e. has-seen (Group x) ∙ c .known .groups x e;
+    keys = λ x e. has-seen (Key group x) ∙ c .known .keys x e;
+  }
 
-  pub no-such-key : (x : List ℕ) → marked m tag x ≡ false → has (readRows (take p file)) (Key group x) ≡ false
-  no-such-key x e = has-seen (Key group x) ∙ c .known .keys x e
-
-  -- a title's fault, by the verdict of the rows before
-  fault-is : (t : Title) (again : Fault) → titleFault leading (c .seen) t n again ≡ faultOf (verdictOf (eqb tag 0) leading (readRows (take p file)) t) (FirstGroup n) again
-  unfolding titleFault verdictOf any
-  fault-is t again = by-test (eqb tag 0) (λ y. rw (y, c .known .begun (eqb-true tag 0 y)) (at-first (sameTitle t (Group leading)))) (λ z. rw z (later (c .seen) (has-seen t) (c .known .current (eqb-false tag 0 z))))
+  -- what a title is told, by the rows before
+  title-told : (t : Title) (again : Fault) → unless (titleFault leading (c .seen) t n again) ≡ titleAfter (eqb tag 0) leading (readRows (take p file)) t n again
+  unfolding titleFault titleAfter any
+  title-told t again =
+      by-test (eqb tag 0)
+      (λ y. rw (y, c .known .begun (eqb-true tag 0 y)) (told-none (sameTitle t (Group leading)) (FirstGroup n)))
+      (λ z. rw (z, has-seen t) (later (c .seen) (c .known .current (eqb-false tag 0 z))))
     where
-      at-first : (b : Bool) → pick b none (some (FirstGroup n)) ≡ faultOf (pick b verdict.Fine verdict.First) (FirstGroup n) again
-      at-first true = refl
-      at-first false = refl
-
-      again-or : (b : Bool) → pick b (some again) none ≡ faultOf (pick b verdict.Again verdict.Fine) (FirstGroup n) again
-      again-or true = refl
-      again-or false = refl
-
-      later : (seen : List Title) → has (readRows (take p file)) t ≡ any (sameTitle t) seen → any (sameTitle (Group group)) seen ≡ true
-          → titleFault leading seen t n again ≡ faultOf (pick (has (readRows (take p file)) t) verdict.Again verdict.Fine) (FirstGroup n) again
-      later [] e y = absurd (false≢true y)
-      later (s ∷ seen) e y = rw e (again-or (any (sameTitle t) (s ∷ seen)))
-
-  -- a title that is fine is new
-  fine-new : (t : Title) → verdict.Fine ≡ verdictOf (eqb tag 0) leading (readRows (take p file)) t → any (sameTitle t) (c .seen) ≡ false
-  unfolding verdictOf any
-  fine-new t v = by-test (eqb tag 0) (λ y. rw (c .known .begun (eqb-true tag 0 y))) (λ z. later (has (readRows (take p file)) t) (has-seen t) (rw z at v))
-    where
-      later : (b : Bool) → b ≡ any (sameTitle t) (c .seen) → verdict.Fine ≡ pick b verdict.Again verdict.Fine → any (sameTitle t) (c .seen) ≡ false
-      later true e v = no (cc)
-      later false e v = sym e
-
-  -- only a group's title is fine as the first
-  key-fine : (g x : List ℕ) → verdict.Fine ≡ verdictOf (eqb tag 0) leading (readRows (take p file)) (Key g x) → tag ≡ 0 → ⊥
-  unfolding verdictOf sameTitle
-  key-fine g x v z = let y : verdict.Fine ≡ verdict.First = rw (eq-eqb tag 0 z) at v in no (cc)
+      later : (seen : List Title) → any (sameTitle (Group group)) seen ≡ true → unless (titleFault leading seen t n again) ≡ need (not (any (sameTitle t) seen)) again
+      later [] y = absurd (false≢true y)
+      later (s ∷ seen) y = told-some (any (sameTitle t) (s ∷ seen)) again
 
   pub none-bad : noneBad (take p file) ≡ true
   unfolding noneBad
   none-bad = rw (c .good)
 
   module _ {e : ℕ} (h : p < length file) (q : e ≡ p + lineLength (drop p file)) where
-    -- its title
-    abbrev named : Title
-    named = titleOf (groupNext file p e group) (part p e file) (readLine (part p e file))
-
-    title-at : title (rowAt file n p e group) ≡ named
-    unfolding title
-    title-at = rw (line-at file h q)
+    abbrev named : Line → Title
+    named r = titleOf (groupAfter group (part p e file) r) (part p e file) r
 
     earliest-at : earliest leading (c .seen) (rowsFrom n p group (rows (drop p file)))
-        ≡ maybe (rowFault leading (c .seen) named n (readLine (part p e file))) (earliest leading (seeing named (c .seen)) (rowsFrom (n + 1) (e + 1) (groupNext file p e group) (rows (drop (e + 1) file)))) some
+        ≡ maybe (rowFault leading (c .seen) (titleAt file p e group) n (readLine (part p e file))) (earliest leading (seeing (titleAt file p e group) (c .seen)) (rowsFrom (n + 1) (e + 1) (groupNext file p e group) (rows (drop (e + 1) file)))) some
     unfolding earliest
-    earliest-at = rw (row-step file h q n group, title-at)
+    earliest-at = rw (row-step file h q n group, title-at file h q n group)
 
-    faulty : {f : Fault} → rowFault leading (c .seen) named n (readLine (part p e file)) ≡ some f → refused f ≡ titledAs leading (readRows file)
-    unfolding titledAs
-    faulty {f} w = let z : earliest leading [] (readRows file) ≡ some f = sym (c .goes) ∙ earliest-at ∙ rw w in rw z
-
-    going : (m′ : List ℕ) (tag′ : ℕ) → rowFault leading (c .seen) named n (readLine (part p e file)) ≡ none → isBad (readLine (part p e file)) ≡ false
-        → Known m′ tag′ (groupNext file p e group) (seeing named (c .seen)) → (not (eqb tag 0) || isGroup named) ≡ not (eqb tag′ 0)
+    going : (m′ : List ℕ) (tag′ : ℕ) → rowFault leading (c .seen) (titleAt file p e group) n (readLine (part p e file)) ≡ none → isBad (readLine (part p e file)) ≡ false
+        → Known m′ tag′ (groupNext file p e group) (seeing (titleAt file p e group) (c .seen)) → (not (eqb tag 0) || isGroup (titleAt file p e group)) ≡ not (eqb tag′ 0)
         → Checking leading file m′ (e + 1) (n + 1) tag′ (groupNext file p e group)
     going m′ tag′ w g k t = record {
-      seen = seeing named (c .seen);
+      seen = seeing (titleAt file p e group) (c .seen);
       known = k;
       prefix = prefix-next (c .prefix) h q;
       good = rw (prefix-read (c .prefix) h q, any-last (λ r. isBad (r .reading)) (readRows (take p file)) (rowAt file n p e group), c .good) g;
       as-seen =
           λ u.
-          seeing-any u named (c .seen)
-          ∙ rw (prefix-read (c .prefix) h q, any-last (λ r. sameTitle u (title r)) (readRows (take p file)) (rowAt file n p e group), title-at, c .as-seen u);
-      headed = rw (prefix-read (c .prefix) h q, any-last (λ r. isGroup (title r)) (readRows (take p file)) (rowAt file n p e group), title-at, c .headed) t;
+          seeing-any u (titleAt file p e group) (c .seen)
+          ∙ rw (prefix-read (c .prefix) h q, any-last (λ r. sameTitle u (title r)) (readRows (take p file)) (rowAt file n p e group), title-at file h q n group, c .as-seen u);
+      headed = rw (prefix-read (c .prefix) h q, any-last (λ r. isGroup (title r)) (readRows (take p file)) (rowAt file n p e group), title-at file h q n group, c .headed) t;
       goes = sym (earliest-at ∙ rw w) ∙ c .goes;
     }
 
     -- ---- by what the line is
 
-    pub at-blank : Blank ≡ readLine (part p e file) → Checking leading file m (e + 1) (n + 1) tag group
-    at-blank x = rw (← x) at (going m tag (rw (← x) refl) (rw (← x) refl) (rw (← x) (c .known)) (rw (← x) (or-false (not (eqb tag 0)))))
+    -- what a row is told, by the rows before
+    row-told : (r : Line) → unless (rowFault leading (c .seen) (named r) n r) ≡ rowAfter (eqb tag 0) leading (readRows (take p file)) (named r) n r
+    row-told Blank = refl
+    row-told Comment = refl
+    row-told (Header end) = title-told (Group (part 1 end (part p e file))) (RepeatedGroup n)
+    row-told (Entry key name value) = title-told (Key group (take name (part p e file))) (RepeatedKey n)
+    row-told (Bad b) = refl
 
-    pub at-comment : Comment ≡ readLine (part p e file) → Checking leading file m (e + 1) (n + 1) tag group
-    at-comment x = rw (← x) at (going m tag (rw (← x) refl) (rw (← x) refl) (rw (← x) (c .known)) (rw (← x) (or-false (not (eqb tag 0)))))
+    pub checking-fault : {r : Line} {f : Fault} → r ≡ readLine (part p e file) → refused f ≡ rowAfter (eqb tag 0) leading (readRows (take p file)) (named r) n r
+        → refused f ≡ titledAs leading (readRows file)
+    unfolding titledAs
+    checking-fault {r} {f} x v =
+        let w = rw x at (unless-refused (rowFault leading (c .seen) (named r) n r) f (row-told r ∙ sym v)) in
+        let z : earliest leading [] (readRows file) ≡ some f = sym (c .goes) ∙ earliest-at ∙ rw w in
+        rw z
 
-    pub at-bad : {b : ℕ} → Bad b ≡ readLine (part p e file) → refused (BadLine n b) ≡ titledAs leading (readRows file)
-    at-bad x = faulty (rw (← x) refl)
+    pub checking-next : {m′ : List ℕ} (r : Line) → r ≡ readLine (part p e file) → given tt ≡ rowAfter (eqb tag 0) leading (readRows (take p file)) (named r) n r → m′ ≡ marksWith m tag (named r)
+        → Checking leading file m′ (e + 1) (n + 1) (tagAfter tag r) (groupAfter group (part p e file) r)
+    checking-next {m′} r x v i = by r x (unless-none (rowFault leading (c .seen) (named r) n r) (v ∙ sym (row-told r))) i
+      where
+        step : (r : Line) (tag′ : ℕ) → r ≡ readLine (part p e file) → rowFault leading (c .seen) (named r) n r ≡ none → isBad r ≡ false
+            → Known m′ tag′ (groupAfter group (part p e file) r) (seeing (named r) (c .seen)) → (not (eqb tag 0) || isGroup (named r)) ≡ not (eqb tag′ 0)
+            → Checking leading file m′ (e + 1) (n + 1) tag′ (groupAfter group (part p e file) r)
+        step r tag′ x w g k t = rw (← x) at (going m′ tag′ (rw (← x) w) (rw (← x) g) (rw (← x) k) (rw (← x) t))
 
-    module _ {end : ℕ} (x : Header end ≡ readLine (part p e file)) where
-      header-fault : rowFault leading (c .seen) named n (readLine (part p e file)) ≡ faultOf (verdictOf (eqb tag 0) leading (readRows (take p file)) (Group (part 1 end (part p e file)))) (FirstGroup n) (RepeatedGroup n)
-      header-fault = rw (← x) (fault-is (Group (part 1 end (part p e file))) (RepeatedGroup n))
-
-      pub header-first : verdict.First ≡ verdictOf (eqb tag 0) leading (readRows (take p file)) (Group (part 1 end (part p e file))) → refused (FirstGroup n) ≡ titledAs leading (readRows file)
-      header-first v = faulty (header-fault ∙ rw (← v) refl)
-
-      pub header-again : verdict.Again ≡ verdictOf (eqb tag 0) leading (readRows (take p file)) (Group (part 1 end (part p e file))) → refused (RepeatedGroup n) ≡ titledAs leading (readRows file)
-      header-again v = faulty (header-fault ∙ rw (← v) refl)
-
-      pub header-fine : {m′ : List ℕ} → verdict.Fine ≡ verdictOf (eqb tag 0) leading (readRows (take p file)) (Group (part 1 end (part p e file))) → m′ ≡ withMark m 0 (part 1 end (part p e file))
-          → Checking leading file m′ (e + 1) (n + 1) (tag % 65535 + 1) (part 1 end (part p e file))
-      header-fine {m′} v w =
-          let z : tag % 65535 + 1 ≡ 0 → ⊥ = λ i. omega arith in
-          let k = known-header (c .known) (part 1 end (part p e file)) (tag % 65535 + 1) z (fine-new (Group (part 1 end (part p e file))) v) in
-          rw (← x) at (going m′ (tag % 65535 + 1) (header-fault ∙ rw (← v) refl) (rw (← x) refl) (rw (w, ← x) k) (rw (← x, ne-eqb (tag % 65535 + 1) 0 z) (or-true (not (eqb tag 0)))))
-
-    module _ {key name value : ℕ} (x : Entry key name value ≡ readLine (part p e file)) where
-      entry-fault : rowFault leading (c .seen) named n (readLine (part p e file)) ≡ faultOf (verdictOf (eqb tag 0) leading (readRows (take p file)) (Key group (take name (part p e file)))) (FirstGroup n) (RepeatedKey n)
-      entry-fault = rw (← x) (fault-is (Key group (take name (part p e file))) (RepeatedKey n))
-
-      pub entry-first : verdict.First ≡ verdictOf (eqb tag 0) leading (readRows (take p file)) (Key group (take name (part p e file))) → refused (FirstGroup n) ≡ titledAs leading (readRows file)
-      entry-first v = faulty (entry-fault ∙ rw (← v) refl)
-
-      pub entry-again : verdict.Again ≡ verdictOf (eqb tag 0) leading (readRows (take p file)) (Key group (take name (part p e file))) → refused (RepeatedKey n) ≡ titledAs leading (readRows file)
-      entry-again v = faulty (entry-fault ∙ rw (← v) refl)
-
-      pub entry-fine : {m′ : List ℕ} → verdict.Fine ≡ verdictOf (eqb tag 0) leading (readRows (take p file)) (Key group (take name (part p e file))) → m′ ≡ withMark m tag (take name (part p e file))
-          → Checking leading file m′ (e + 1) (n + 1) tag group
-      entry-fine {m′} v w =
-          let k = known-entry (c .known) (take name (part p e file)) (key-fine group (take name (part p e file)) v) in
-          rw (← x) at (going m′ tag (entry-fault ∙ rw (← v) refl) (rw (← x) refl) (rw (w, ← x) k) (rw (← x) (or-false (not (eqb tag 0)))))
+        by : (r : Line) → r ≡ readLine (part p e file) → rowFault leading (c .seen) (named r) n r ≡ none → m′ ≡ marksWith m tag (named r)
+            → Checking leading file m′ (e + 1) (n + 1) (tagAfter tag r) (groupAfter group (part p e file) r)
+        by Blank x w i = step Blank tag x w refl (rw i (c .known)) (or-false (not (eqb tag 0)))
+        by Comment x w i = step Comment tag x w refl (rw i (c .known)) (or-false (not (eqb tag 0)))
+        by (Header end) x w i =
+            let g : List ℕ = part 1 end (part p e file) in
+            let z : tag % 65535 + 1 ≡ 0 → ⊥ = λ j. omega arith in
+            step (Header end) (tag % 65535 + 1) x w refl
+            (rw i (known-header (c .known) g (tag % 65535 + 1) z (fault-new leading (c .seen) (Group g) n (RepeatedGroup n) w)))
+            (rw (ne-eqb (tag % 65535 + 1) 0 z) (or-true (not (eqb tag 0))))
+        by (Entry key name value) x w i =
+            let k : List ℕ = take name (part p e file) in
+            step (Entry key name value) tag x w refl
+            (rw i (known-entry (c .known) k (λ z. key-later leading group k n (RepeatedKey n) (rw (c .known .begun z) at w))))
+            (or-false (not (eqb tag 0)))
+        by (Bad b) x w i = no (cc)
 
   -- ---- at the end
 

@@ -5,7 +5,7 @@ use mathlib.Core.Bool.{Bool, true, false, _&&_, _||_, false≢true}
 use mathlib.Core.List.{List, [], _∷_}
 use lib.ListN.{length}
 use Rattle.base.specs.Lists.{same, any}
-use Rattle.base.proofs.Tests.{no, or-both, same-refl, same-true}
+use Rattle.base.proofs.Tests.{or-both, same-refl, same-true}
 use Rattle.marks.specs.Marks.{marked, withMark}
 use Rattle.marks.proofs.Table.{mark-length, mark-own, mark-kept}
 use Rattle.rows.specs.Title.{Title, Group, Key, sameTitle}

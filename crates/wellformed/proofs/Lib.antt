@@ -1,6 +1,7 @@
 pub mod Lists
+pub mod Places
 pub mod Accepts
 pub mod Known
-pub mod Checking
-pub mod Plain
 pub mod ByLines
+pub mod Plain
+pub mod Checking

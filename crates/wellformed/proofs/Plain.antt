@@ -1,39 +1,52 @@
--- The rule of plain keys: what the first pass settles by the key read last, and the second pass row by row. Assumes nothing.
+-- The rule of plain keys: what the state tells of the rows before, and the second pass row by row. Assumes nothing.
 use mathlib.Core.Path.{_≡_, refl, sym, ap, _∙_}
 use Prim.Native.Nat.{ℕ, _+_, _≤_, _<_}
 use native.Mathlib.Omega.{arith}
-use mathlib.Core.Bool.{Bool, true, false, not, _&&_, _||_}
+use mathlib.Core.Bool.{Bool, true, false, not, _||_}
 use mathlib.Core.Option.{Option, none, some}
-use mathlib.Core.List.{List, [], _∷_, _++_}
+use mathlib.Core.List.{List}
 use lib.ListN.{length, take, drop}
-use lib.Seq.{take-take, length-take-le}
+use lib.Seq.{take-take}
+use lib.Dec.{eqb}
+use borrow.Author.Tests.{eqb-true, not-false}
 use Rattle.base.specs.Choice.{pick, maybe, there}
 use Rattle.base.specs.Lists.{same, part, any, first}
-use Rattle.base.proofs.Tests.{no, same-refl, same-true}
+use Rattle.base.proofs.Tests.{no, by-test, same-refl, same-true}
+use Rattle.base.proofs.Search.{there-first, any-append, first-none}
+use Rattle.fault.specs.declared.Fault.{Fault}
 use Rattle.fault.specs.declared.Fault.the-variants.{NoPlainKey}
-use Rattle.fault.specs.Answer.{Answer, given, refused}
-use Rattle.line.specs.Line.{readLine, isBad}
+use Rattle.fault.specs.Answer.{Answer, given, refused, need}
+use Rattle.line.specs.Line.{readLine}
 use Rattle.line.specs.declared.Line.{Line}
 use Rattle.line.specs.declared.Line.the-variants.{Blank, Comment, Header, Entry, Bad}
-use Rattle.line.proofs.Bounds.{LineWithin, line-within}
 use Rattle.line.proofs.Entries.{entry-key}
-use Rattle.rows.specs.Rows.{Row, rows, lineOf, groupAfter, rowsFrom, readRows}
-use Rattle.rows.specs.Title.{Title, Nameless, Group, Key, titleOf, title, sameTitle, findRow, has}
-use Rattle.rows.specs.Find.{lineLength, toldOf}
+use Rattle.rows.specs.Rows.{Row, rows, groupAfter, rowsFrom, readRows}
+use Rattle.rows.specs.Title.{Title, Key, titleOf, title, sameTitle, findRow, has}
+use Rattle.rows.specs.Find.{lineLength, foundOf}
 use Rattle.rows.specs.declared.Found.the-variants as found
-use Rattle.base.proofs.Search.{there-first, any-append, first-none}
-use Rattle.rows.proofs.Step.{rowAt, groupNext, no-row, length-line, line-at, row-step, Prefix, prefix-start, prefix-end, prefix-rest, prefix-read, prefix-next}
+use Rattle.rows.proofs.Step.{rowAt, titleAt, no-row, title-at, row-step, Prefix, prefix-start, prefix-end, prefix-rest, prefix-read, prefix-next}
+use Rattle.wellformed.specs.declared.Part.{Part}
+use Rattle.wellformed.specs.declared.State.{State}
 use Rattle.wellformed.specs.Check.{plainOf, plainTitle, wanted, noPlain, plainAll}
-use Rattle.wellformed.proofs.Lists.{or-true, any-last}
+use Rattle.wellformed.specs.Pass.{bytes, Lies, Within, start, after, LastThere, plainAt}
+use Rattle.wellformed.proofs.Lists.{or-true, any-last, pick-by}
+use Rattle.wellformed.proofs.Places.{bytes-length, reads-within, tagAfter, reads, name-lies, name-bytes, key-lies, key-bytes}
 
 -- what was told of a row says whether there is one
-pub told-there : (o : Option Row) {line start end at : ℕ} → found.Row line start end at ≡ toldOf o → there o ≡ true
+pub told-there : (o : Option Row) {line start end at : ℕ} → found.Row line start end at ≡ foundOf o → there o ≡ true
 told-there none y = no (cc)
 told-there (some r) y = refl
 
-pub told-missing : (o : Option Row) → found.Nothing ≡ toldOf o → there o ≡ false
+pub told-missing : (o : Option Row) → found.Nothing ≡ foundOf o → there o ≡ false
 told-missing none y = refl
 told-missing (some r) y = no (cc)
+
+-- the same bytes are there under either part
+pub there-as : (file group : List ℕ) (y x : Part) → Lies file y → Lies file x → 0 < x .len → same (bytes file y) (bytes file x) ≡ true
+    → (0 < y .len → has (readRows file) (Key group (bytes file y)) ≡ true) → has (readRows file) (Key group (bytes file x)) ≡ true
+there-as file group y x j k z t f =
+    let i : bytes file y ≡ bytes file x = same-true (bytes file y) (bytes file x) t in
+    rw (← i) (f (omega (arith, bytes-length file y j, bytes-length file x k, ap length i)))
 
 -- what a row without its plain key is told as
 abbrev pub told : Option Row → Answer (Unit {0})
@@ -43,13 +56,9 @@ module _ (file : List ℕ) where
   -- ---- the row at a place
 
   module _ {p n : ℕ} {group : List ℕ} (w : Prefix file p n group) {e : ℕ} (h : p < length file) (q : e ≡ p + lineLength (drop p file)) where
-    title-at : title (rowAt file n p e group) ≡ titleOf (groupNext file p e group) (part p e file) (readLine (part p e file))
-    unfolding title
-    title-at = rw (line-at file h q)
-
-    asks : noPlain (readRows file) (rowAt file n p e group) ≡ wanted (readRows file) (plainTitle (titleOf (groupNext file p e group) (part p e file) (readLine (part p e file))))
+    asks : noPlain (readRows file) (rowAt file n p e group) ≡ wanted (readRows file) (plainTitle (titleAt file p e group))
     unfolding noPlain
-    asks = ap (λ (t : Title). wanted (readRows file) (plainTitle t)) title-at
+    asks = ap (λ (t : Title). wanted (readRows file) (plainTitle t)) (title-at file h q n group)
 
     -- a row of the file is among its rows
     has-own : (t : Title) → sameTitle t (title (rowAt file n p e group)) ≡ true → has (readRows file) t ≡ true
@@ -62,155 +71,149 @@ module _ (file : List ℕ) where
       plain-front : plainOf (take name (part p e file)) ≡ take key (part p e file)
       unfolding plainOf
       plain-front =
-          let k = entry-key (part p e file) key name value (sym x) in
-          let b = rw (← x) at (line-within (part p e file)) in
-          rw (k, take-take key name (part p e file) (b .1))
+          let b = reads-within (reads file h q x) in
+          rw (entry-key (part p e file) key name value (sym x), take-take key name (part p e file) (b .1))
 
-      -- a row asks for its plain key
-      pub entry-asks : noPlain (readRows file) (rowAt file n p e group) ≡ not (has (readRows file) (Key group (take key (part p e file))))
-      entry-asks = asks ∙ rw (← x, plain-front)
+      -- an entry asks for its plain key
+      entry-asks : noPlain (readRows file) (rowAt file n p e group) ≡ not (has (readRows file) (Key group (bytes file (record { from = p; len = key }))))
+      entry-asks = asks ∙ rw (← x, plain-front, key-bytes file h q x)
 
       -- a plain key is there itself
-      pub plain-there : key ≡ name → has (readRows file) (Key group (take key (part p e file))) ≡ true
+      plain-there : eqb key name ≡ true → has (readRows file) (Key group (bytes file (record { from = p; len = key }))) ≡ true
       unfolding sameTitle
-      plain-there i = has-own (Key group (take key (part p e file))) (rw (title-at, ← x, i, same-refl group, same-refl (take name (part p e file))))
+      plain-there t =
+          has-own (Key group (bytes file (record { from = p; len = key })))
+          (rw (title-at file h q n group, ← x, key-bytes file h q x, eqb-true key name t, same-refl group, same-refl (take name (part p e file))))
 
-    module _ (l : Line) (x : l ≡ readLine (part p e file)) where
-      other-asks : wanted (readRows file) (plainTitle (titleOf (groupAfter group (part p e file) l) (part p e file) l)) ≡ false → noPlain (readRows file) (rowAt file n p e group) ≡ false
-      other-asks y = asks ∙ rw (← x) y
+    other-asks : (r : Line) → r ≡ readLine (part p e file) → wanted (readRows file) (plainTitle (titleOf (groupAfter group (part p e file) r) (part p e file) r)) ≡ false
+        → noPlain (readRows file) (rowAt file n p e group) ≡ false
+    other-asks r x y = asks ∙ rw (← x) y
 
-  -- the key that was read or found last is this row's plain key
-  last-is : {p e : ℕ} (group last : List ℕ) (h : p < length file) (q : e ≡ p + lineLength (drop p file)) {key name value : ℕ} → Entry key name value ≡ readLine (part p e file)
-      → (0 < length last → has (readRows file) (Key group last) ≡ true) → true ≡ same last (take key (part p e file)) → has (readRows file) (Key group (take key (part p e file))) ≡ true
-  last-is {p} {e} group last h q {key} x k y =
-      let i : last ≡ take key (part p e file) = same-true last (take key (part p e file)) (sym y) in
-      let b = rw (← x) at (line-within (part p e file)) in
-      let l : length (take key (part p e file)) ≡ key = length-take-le key (part p e file) (omega arith) in
-      rw i at (k (rw i (omega (arith, l, b .0))))
+  -- ---- the state after the rows before p: unless there is doubt, only the plain key that is still to come can be missing
 
-  -- ---- the first pass: want is the plain key that is still to come, doubt says that a postfixed key has another place
+  pub record Held (p : ℕ) (s : State) : Type 0 where
+    pub within : Within file s
+    pub last-there : LastThere file s
+    pub settled : s .doubt ≡ false → (0 < s .want .len → has (readRows file) (Key (bytes file (s .group)) (bytes file (s .want))) ≡ true)
+        → any (noPlain (readRows file)) (readRows (take p file)) ≡ false
 
-  pub record Plain (p : ℕ) (group last want : List ℕ) (doubt : Bool) : Type 0 where
-    pub known : 0 < length last → has (readRows file) (Key group last) ≡ true
-    pub settled : doubt ≡ false → (0 < length want → has (readRows file) (Key group want) ≡ true) → any (noPlain (readRows file)) (readRows (take p file)) ≡ false
-
-  -- no plain key is still to come
-  empty : (group want : List ℕ) → length want ≡ 0 → 0 < length want → has (readRows file) (Key group want) ≡ true
-  empty group want e h = absurd (omega arith)
-
-  pub plain-start : Plain 0 [] [] [] false
+  pub held-start : Held 0 start
   unfolding readRows rows rowsFrom any
-  plain-start = record { known = λ z. absurd (omega arith); settled = λ e k. refl }
+  held-start = record { within = record { group = omega arith; last = omega arith; want = omega arith }; last-there = λ z. absurd (omega arith); settled = λ d z. refl }
 
-  pub plain-end : {p n : ℕ} {group last want : List ℕ} → Prefix file p n group → Plain p group last want false → length want ≡ 0 → length file ≤ p → given tt ≡ plainAll (readRows file)
+  pub held-end : {p n : ℕ} {s : State} → Prefix file p n (bytes file (s .group)) → Held p s → s .doubt ≡ false → s .want .len ≡ 0 → length file ≤ p → given tt ≡ plainAll (readRows file)
   unfolding plainAll
-  plain-end {p} {n} {group} {last} {want} w k z h =
-      rw (first-none (noPlain (readRows file)) (readRows file) (ap (any (noPlain (readRows file))) (prefix-end w h) ∙ k .settled refl (empty group want z)))
+  held-end w k d i h =
+      rw (first-none (noPlain (readRows file)) (readRows file) (ap (any (noPlain (readRows file))) (prefix-end w h) ∙ k .settled d (λ z. absurd (omega arith))))
 
-  module _ {p n : ℕ} {group last want : List ℕ} {doubt : Bool} (w : Prefix file p n group) (k : Plain p group last want doubt) {e : ℕ} (h : p < length file) (q : e ≡ p + lineLength (drop p file)) where
-    more : doubt ≡ false → (0 < length want → has (readRows file) (Key group want) ≡ true) → noPlain (readRows file) (rowAt file n p e group) ≡ false
+  module _ {p n : ℕ} {s : State} (w : Prefix file p n (bytes file (s .group))) (k : Held p s) {e : ℕ} (h : p < length file) (q : e ≡ p + lineLength (drop p file)) where
+    more : any (noPlain (readRows file)) (readRows (take p file)) ≡ false → noPlain (readRows file) (rowAt file n p e (bytes file (s .group))) ≡ false
         → any (noPlain (readRows file)) (readRows (take (e + 1) file)) ≡ false
-    more d z y = rw (prefix-read w h q, any-last (noPlain (readRows file)) (readRows (take p file)) (rowAt file n p e group), k .settled d z, y)
+    more i y = rw (prefix-read w h q, any-last (noPlain (readRows file)) (readRows (take p file)) (rowAt file n p e (bytes file (s .group))), i, y)
 
-    pub plain-blank : Blank ≡ readLine (part p e file) → Plain (e + 1) group last want doubt
-    plain-blank x = record { known = k .known; settled = λ d z. more d z (other-asks w h q Blank x refl) }
+    -- the state stays
+    stays : ((0 < s .want .len → has (readRows file) (Key (bytes file (s .group)) (bytes file (s .want))) ≡ true) → noPlain (readRows file) (rowAt file n p e (bytes file (s .group))) ≡ false)
+        → Held (e + 1) s
+    stays f = record { within = k .within; last-there = k .last-there; settled = λ d z. more (k .settled d z) (f z) }
 
-    pub plain-comment : Comment ≡ readLine (part p e file) → Plain (e + 1) group last want doubt
-    plain-comment x = record { known = k .known; settled = λ d z. more d z (other-asks w h q Comment x refl) }
+    -- what a row leaves: the group and its number, and the state
+    pub record Next (r : Line) (t : State) : Type 0 where
+      pub tag : t .tag ≡ tagAfter (s .tag) r
+      pub group : bytes file (t .group) ≡ groupAfter (bytes file (s .group)) (part p e file) r
+      pub held : Held (e + 1) t
 
-    module _ {end : ℕ} (x : Header end ≡ readLine (part p e file)) where
-      pub plain-header : length want ≡ 0 → Plain (e + 1) (part 1 end (part p e file)) [] want doubt
-      plain-header i = record { known = λ z. absurd (omega arith); settled = λ d z. more d (empty group want i) (other-asks w h q (Header end) x refl) }
+    -- after an entry: the same group, with another last key, key still to come or doubt
+    entered : {key name value : ℕ} {last want : Part} {doubt : Bool} → Lies file last → Lies file want
+        → (0 < last .len → has (readRows file) (Key (bytes file (s .group)) (bytes file last)) ≡ true)
+        → (doubt ≡ false → (0 < want .len → has (readRows file) (Key (bytes file (s .group)) (bytes file want)) ≡ true) → any (noPlain (readRows file)) (readRows (take (e + 1) file)) ≡ false)
+        → Next (Entry key name value) (record { tag = s .tag; group = s .group; last = last; want = want; doubt = doubt })
+    entered i j t f = record { tag = refl; group = refl; held = record { within = record { group = k .within .group; last = i; want = j }; last-there = t; settled = f } }
 
-      pub plain-left : Plain (e + 1) (part 1 end (part p e file)) [] [] true
-      plain-left = record { known = λ z. absurd (omega arith); settled = λ d z. no (cc) }
-
-    module _ {key name value : ℕ} (x : Entry key name value ≡ readLine (part p e file)) where
-      -- a plain key
-      module _ (i : key ≡ name) where
-        pub plain-own : Plain (e + 1) group (take key (part p e file)) want doubt
-        plain-own =
-            let y = plain-there w h q x i in
-            record { known = λ z. y; settled = λ d z. more d z (entry-asks w h q x ∙ rw y) }
-
-        pub plain-come : true ≡ same want (take key (part p e file)) → Plain (e + 1) group (take key (part p e file)) [] doubt
-        plain-come s =
-            let y = plain-there w h q x i in
-            let j : want ≡ take key (part p e file) = same-true want (take key (part p e file)) (sym s) in
-            record { known = λ z. y; settled = λ d z. more d (λ l. rw j y) (entry-asks w h q x ∙ rw y) }
-
-      -- a postfixed key
-      pub plain-last : true ≡ same last (take key (part p e file)) → Plain (e + 1) group last want doubt
-      plain-last y =
-          let z = last-is group last h q x (k .known) y in
-          record { known = k .known; settled = λ d v. more d v (entry-asks w h q x ∙ rw z) }
-
-      pub plain-again : true ≡ same want (take key (part p e file)) → Plain (e + 1) group last want doubt
-      plain-again y = record { known = k .known; settled = λ d v. more d v (let z = last-is group want h q x v y in entry-asks w h q x ∙ rw z) }
-
-      pub plain-first : length want ≡ 0 → Plain (e + 1) group last (take key (part p e file)) doubt
-      plain-first i =
-          let b = rw (← x) at (line-within (part p e file)) in
-          let l : length (take key (part p e file)) ≡ key = length-take-le key (part p e file) (omega arith) in
-          record { known = k .known; settled = λ d v. more d (empty group want i) (let z = v (omega (arith, l, b .0)) in entry-asks w h q x ∙ rw z) }
-
-      pub plain-doubt : Plain (e + 1) group last want true
-      plain-doubt = record { known = k .known; settled = λ d v. no (cc) }
+    -- where the flag says so, the plain key of an entry is there
+    pub held-next : (t : Bool) (r : Line) → r ≡ readLine (part p e file)
+        → (t ≡ true → (key name value : ℕ) → Entry key name value ≡ r → has (readRows file) (Key (bytes file (s .group)) (bytes file (record { from = p; len = key }))) ≡ true)
+        → Next r (after file p t s r)
+    held-next t Blank x o = record { tag = refl; group = refl; held = stays (λ z. other-asks w h q Blank x refl) }
+    held-next t Comment x o = record { tag = refl; group = refl; held = stays (λ z. other-asks w h q Comment x refl) }
+    held-next t (Bad b) x o = record { tag = refl; group = refl; held = stays (λ z. other-asks w h q (Bad b) x refl) }
+    held-next t (Header end) x o =
+        let g = name-lies file h q x in
+        let y = name-bytes file h q x in
+        pick-by (Next (Header end)) (eqb (s .want .len) 0)
+        (λ i. record {
+          tag = refl;
+          group = y;
+          held = record {
+            within = record { group = g; last = omega arith; want = k .within .want };
+            last-there = λ z. absurd (omega arith);
+            settled = λ d z. more (k .settled d (λ l. absurd (omega (arith, eqb-true (s .want .len) 0 i)))) (other-asks w h q (Header end) x refl);
+          };
+        })
+        (λ i. record { tag = refl; group = y; held = record { within = record { group = g; last = omega arith; want = omega arith }; last-there = λ z. absurd (omega arith); settled = λ d z. no (cc) } })
+    held-next t (Entry key name value) x o =
+        let x′ : Part = record { from = p; len = key } in
+        let l : Lies file x′ = key-lies (reads file h q x) in
+        let y : 0 < key = reads-within (reads file h q x) .0 in
+        let v : has (readRows file) (Key (bytes file (s .group)) (bytes file x′)) ≡ true → noPlain (readRows file) (rowAt file n p e (bytes file (s .group))) ≡ false = λ i. entry-asks w h q x ∙ rw i in
+        let own : (t || eqb key name) ≡ true → has (readRows file) (Key (bytes file (s .group)) (bytes file x′)) ≡ true = λ i. by-test t (λ j. o j key name value refl) (λ j. plain-there w h q x (rw j at i)) in
+        pick-by (Next (Entry key name value)) (t || eqb key name)
+        (λ i. pick-by (Next (Entry key name value)) (same (bytes file (s .want)) (bytes file x′))
+        (λ j. entered l (omega arith) (λ z. own i) (λ d z. more (k .settled d (λ _. rw (same-true (bytes file (s .want)) (bytes file x′) j) (own i))) (v (own i))))
+        (λ j. entered l (k .within .want) (λ z. own i) (λ d z. more (k .settled d z) (v (own i)))))
+        (λ i. pick-by (Next (Entry key name value)) (same (bytes file (s .last)) (bytes file x′))
+        (λ j. record { tag = refl; group = refl; held = stays (λ z. v (there-as file (bytes file (s .group)) (s .last) x′ (k .within .last) l y j (k .last-there))) })
+        (λ _. pick-by (Next (Entry key name value)) (same (bytes file (s .want)) (bytes file x′))
+        (λ j. record { tag = refl; group = refl; held = stays (λ z. v (there-as file (bytes file (s .group)) (s .want) x′ (k .within .want) l y j z)) })
+        (λ _. pick-by (Next (Entry key name value)) (eqb (s .want .len) 0)
+        (λ j. entered (k .within .last) l (k .last-there) (λ d z. more (k .settled d (λ i. absurd (omega (arith, eqb-true (s .want .len) 0 j)))) (v (z y))))
+        (λ j. entered (k .within .last) (k .within .want) (k .last-there) (λ d z. no (cc))))))
 
   -- ---- the second pass
 
-  pub record Asking (p n : ℕ) (group last : List ℕ) : Type 0 where
-    pub prefix : Prefix file p n group
-    pub last-there : 0 < length last → has (readRows file) (Key group last) ≡ true
-    pub goes : told (first (noPlain (readRows file)) (rowsFrom n p group (rows (drop p file)))) ≡ plainAll (readRows file)
+  pub record Asking (p n : ℕ) (s : State) : Type 0 where
+    pub prefix : Prefix file p n (bytes file (s .group))
+    pub held : Held p s
+    pub goes : told (first (noPlain (readRows file)) (rowsFrom n p (bytes file (s .group)) (rows (drop p file)))) ≡ plainAll (readRows file)
 
-  pub asking-start : Asking 0 1 [] []
+  pub asking-start : Asking 0 1 start
   unfolding plainAll readRows
-  asking-start = record { prefix = prefix-start file; last-there = λ h. absurd (omega arith); goes = refl }
+  asking-start = record { prefix = prefix-start file; held = held-start; goes = refl }
 
-  module _ {p n : ℕ} {group last : List ℕ} (a : Asking p n group last) where
+  module _ {p n : ℕ} {s : State} (a : Asking p n s) where
     pub asking-end : length file ≤ p → given tt ≡ plainAll (readRows file)
     unfolding rowsFrom first
     asking-end h = rw (no-row file p h) at (a .goes)
 
-    module _ {e : ℕ} (h : p < length file) (q : e ≡ p + lineLength (drop p file)) where
-      onward : {last′ : List ℕ} (l : Line) → l ≡ readLine (part p e file) → noPlain (readRows file) (rowAt file n p e group) ≡ false
-          → (0 < length last′ → has (readRows file) (Key (groupAfter group (part p e file) l) last′) ≡ true)
-          → Asking (e + 1) (n + 1) (groupAfter group (part p e file) l) last′
-      unfolding first
-      onward l x y k =
-          rw x
-          (record { prefix = prefix-next (a .prefix) h q; last-there = rw x at k; goes = rw (row-step file h q n group, y) at (a .goes) })
+    module _ {e : ℕ} (h : p < length file) (q : e ≡ p + lineLength (drop p file)) {r : Line} (x : r ≡ readLine (part p e file)) where
+      row-lacks : Bool
+      row-lacks = noPlain (readRows file) (rowAt file n p e (bytes file (s .group)))
 
-      pub asking-blank : Blank ≡ readLine (part p e file) → Asking (e + 1) (n + 1) group last
-      asking-blank x = onward Blank x (other-asks (a .prefix) h q Blank x refl) (a .last-there)
+      -- what is asked of the row is whether it lacks its plain key
+      lack-is : plainAt file p s n r ≡ pick row-lacks (refused (NoPlainKey n)) (given tt)
+      unfolding row-lacks
+      lack-is = by r x
+        where
+          other : (b : Bool) → need b (NoPlainKey n) ≡ pick (not b) (refused (NoPlainKey n)) (given tt)
+          other true = refl
+          other false = refl
 
-      pub asking-comment : Comment ≡ readLine (part p e file) → Asking (e + 1) (n + 1) group last
-      asking-comment x = onward Comment x (other-asks (a .prefix) h q Comment x refl) (a .last-there)
+          by : (r : Line) → r ≡ readLine (part p e file) → plainAt file p s n r ≡ pick row-lacks (refused (NoPlainKey n)) (given tt)
+          by Blank x = rw (other-asks (a .prefix) h q Blank x refl)
+          by Comment x = rw (other-asks (a .prefix) h q Comment x refl)
+          by (Header end) x = rw (other-asks (a .prefix) h q (Header end) x refl)
+          by (Entry key name value) x =
+              rw (entry-asks (a .prefix) h q x)
+              (by-test (eqb key name) (λ t. rw (t, plain-there (a .prefix) h q x t) refl) (λ f. rw f (other (has (readRows file) (Key (bytes file (s .group)) (bytes file (record { from = p; len = key })))))))
+          by (Bad b) x = rw (other-asks (a .prefix) h q (Bad b) x refl)
 
-      pub asking-bad : {b : ℕ} → Bad b ≡ readLine (part p e file) → Asking (e + 1) (n + 1) group last
-      asking-bad {b} x = onward (Bad b) x (other-asks (a .prefix) h q (Bad b) x refl) (a .last-there)
+      pub asking-missing : {f : Fault} → refused f ≡ plainAt file p s n r → refused f ≡ plainAll (readRows file)
+      unfolding first row-lacks
+      asking-missing {f} y = by-test row-lacks (λ t. y ∙ lack-is ∙ rw t (rw (row-step file h q n (bytes file (s .group)), t) at (a .goes))) (λ i. let z : refused f ≡ given tt = y ∙ lack-is ∙ rw i in no (cc))
 
-      pub asking-header : {end : ℕ} → Header end ≡ readLine (part p e file) → Asking (e + 1) (n + 1) (part 1 end (part p e file)) []
-      asking-header {end} x = onward (Header end) x (other-asks (a .prefix) h q (Header end) x refl) (λ z. absurd (omega arith))
-
-      module _ {key name value : ℕ} (x : Entry key name value ≡ readLine (part p e file)) where
-        there-goes : {last′ : List ℕ} → has (readRows file) (Key group (take key (part p e file))) ≡ true → (0 < length last′ → has (readRows file) (Key group last′) ≡ true)
-            → Asking (e + 1) (n + 1) group last′
-        there-goes y k = onward (Entry key name value) x (entry-asks (a .prefix) h q x ∙ rw y) k
-
-        pub asking-plain : key ≡ name → Asking (e + 1) (n + 1) group (take key (part p e file))
-        asking-plain i = let y = plain-there (a .prefix) h q x i in there-goes y (λ z. y)
-
-        pub asking-last : true ≡ same last (take key (part p e file)) → Asking (e + 1) (n + 1) group last
-        asking-last y = there-goes (last-is group last h q x (a .last-there) y) (a .last-there)
-
-        pub asking-found : {line start end at : ℕ} → found.Row line start end at ≡ toldOf (findRow (readRows file) (Key group (take key (part p e file))))
-            → Asking (e + 1) (n + 1) group (take key (part p e file))
-        asking-found y = let z = told-there (findRow (readRows file) (Key group (take key (part p e file)))) y in there-goes z (λ i. z)
-
-        pub asking-missing : found.Nothing ≡ toldOf (findRow (readRows file) (Key group (take key (part p e file)))) → refused (NoPlainKey n) ≡ plainAll (readRows file)
-        unfolding first
-        asking-missing y =
-            let z : noPlain (readRows file) (rowAt file n p e group) ≡ true = entry-asks (a .prefix) h q x ∙ rw (told-missing (findRow (readRows file) (Key group (take key (part p e file)))) y) in
-            rw (row-step file h q n group, z) at (a .goes)
+      pub asking-next : given tt ≡ plainAt file p s n r → Asking (e + 1) (n + 1) (after file p true s r)
+      unfolding first row-lacks
+      asking-next y =
+          let i : row-lacks ≡ false = by-test row-lacks (λ t. let z : given tt ≡ refused (NoPlainKey n) = y ∙ lack-is ∙ rw t in no (cc)) (λ f. f) in
+          let t = held-next (a .prefix) (a .held) h q true r x (λ _ key name value j. not-false (has (readRows file) (Key (bytes file (s .group)) (bytes file (record { from = p; len = key })))) (sym (entry-asks (a .prefix) h q (j ∙ x)) ∙ i)) in
+          let m = t .group ∙ ap (groupAfter (bytes file (s .group)) (part p e file)) x in
+          record { prefix = rw m (prefix-next (a .prefix) h q); held = t .held; goes = rw m (rw (row-step file h q n (bytes file (s .group)), i) at (a .goes)) }

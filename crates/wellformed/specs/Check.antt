@@ -5,20 +5,24 @@ use mathlib.Core.Option.{Option, none, some}
 use mathlib.Core.List.{List, [], _∷_}
 use lib.ListN.{length, take}
 use lib.Dec.{leb}
+use Rattle.base.specs.Bounds.{fileMost}
 use Rattle.base.specs.Choice.{pick, maybe}
-use Rattle.base.specs.Lists.{ascii, span, any, first}
+use Rattle.base.specs.Lists.{span, any, first}
 use Rattle.fault.specs.declared.Fault.{Fault}
 use Rattle.fault.specs.declared.Fault.the-variants.{TooLong, BadLine, FirstGroup, RepeatedGroup, RepeatedKey, NoPlainKey}
 use Rattle.fault.specs.Answer.{Answer, given, refused, _>>=_, need, unless}
-use Rattle.text.specs.Class.{keyByte}
+use Rattle.characters.specs.Class.{keyByte}
 use Rattle.line.specs.declared.Line.{Line}
 use Rattle.line.specs.declared.Line.the-variants.{Blank, Comment, Header, Entry, Bad}
 use Rattle.rows.specs.Rows.{Row, readRows}
 use Rattle.rows.specs.Title.{desktopEntry, Title, Nameless, Group, Key, title, sameTitle, seeing, has}
+use Rattle.wellformed.specs.declared.Checked.{Checked}
+use Rattle.wellformed.specs.declared.Checked.the-variants as checked
 
--- the most bytes a file has
-abbrev pub fileMost : ℕ
-fileMost = 32768
+-- what the answer says
+abbrev pub answered : Checked → Answer (Unit {0})
+answered checked.Sound = given tt
+answered (checked.Refused f) = refused f
 
 -- A title after those seen: the first must be the group named, and none comes twice.
 unfoldable pub titleFault : List ℕ → List Title → Title → ℕ → Fault → Option Fault

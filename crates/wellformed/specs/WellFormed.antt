@@ -5,12 +5,13 @@ use mathlib.Core.Bool.{Bool, true, false, not, _&&_}
 use mathlib.Core.List.{List, [], _∷_}
 use lib.ListN.{length}
 use lib.Dec.{leb}
+use Rattle.base.specs.Bounds.{fileMost}
 use Rattle.base.specs.Lists.{any}
 use Rattle.fault.specs.Answer.{accepted}
 use Rattle.line.specs.Line.{isBad}
 use Rattle.rows.specs.Rows.{Row, readRows}
 use Rattle.rows.specs.Title.{desktopEntry, Title, Group, sameTitle, titles}
-use Rattle.wellformed.specs.Check.{fileMost, noPlain, checkAs}
+use Rattle.wellformed.specs.Check.{noPlain, checkAs}
 
 -- the first title is this group's
 abbrev pub leads : List ℕ → List Title → Bool

@@ -4,13 +4,13 @@ use mathlib.Core.Bool.{true}
 use Rattle.fault.specs.Answer.{given}
 use Rattle.fault.proofs.Answers.{then-given, then-refused}
 use Rattle.text.specs.Element.{elementsOf}
-use Rattle.text.specs.Step.{spared, spendAll}
+use Rattle.text.specs.Step.{roomOf, spendAll}
 use Rattle.text.specs.declared.Left.the-variants.{Bytes}
 use Rattle.text.proofs.OutputLaws.{leaves-refused}
 use Rattle.line.specs.Form.{localeForm}
 use Rattle.rows.specs.Title.{desktopEntry}
 use Rattle.wellformed.specs.Check.{check}
-use Rattle.wellformed.specs.Pass as pass
+use Rattle.wellformed.specs.Check as pass
 use Rattle.wellformed.proofs.Accepts.{check-good}
 use Rattle.actions.specs.Actions as spec
 use Rattle.actions.proofs.Answering.{list-unsound, list-locale, list-wrong, list-read}
@@ -46,7 +46,7 @@ returns c =
     let a = start t .args in
     leaves-refused (spec.actions (a .file .now) (a .locale .now)) _ (a .out .now)
     (list-wrong (a .file .now) (a .locale .now) (checks t) (form (v .before)) (v .value .ensures)
-    (then-refused (spendAll (Bytes 0)) (elementsOf (v .value .result .now)) (sym (ap spared (c .before .at .given .1)) ∙ list .spare .ensures)))
+    (then-refused (spendAll (Bytes 0)) (elementsOf (v .value .result .now)) (sym (ap roomOf (c .before .at .given .1)) ∙ list .room-after .ensures)))
 
 returns-2 : tie.Need-returns-2
 returns-2 c =
@@ -56,7 +56,7 @@ returns-2 c =
     let v = list .before in
     let t = v .before .before .before in
     let a = start t .args in
-    let ids = then-given (spendAll (Bytes 0)) (elementsOf (v .value .result .now)) (sym (ap spared (read .enum-told2 .given .1)) ∙ list .spare .ensures) in
+    let ids = then-given (spendAll (Bytes 0)) (elementsOf (v .value .result .now)) (sym (ap roomOf (read .enum-told2 .given .1)) ∙ list .room-after .ensures) in
     rw (list-read (a .file .now) (a .locale .now) (checks t) (form (v .before)) (v .value .ensures) (ids .1)) (write .write-all .ensures)
 
 returns-3 : tie.Need-returns-3

@@ -4,7 +4,7 @@ use mathlib.Core.Bool.{_&&_}
 use Rattle.base.specs.Lists.{same, any}
 use Rattle.fault.proofs.Answers.{then-given, then-refused}
 use Rattle.text.specs.Element.{elementsOf}
-use Rattle.text.specs.Step.{spared, spendAll}
+use Rattle.text.specs.Step.{roomOf, spendAll}
 use Rattle.text.specs.declared.Left.the-variants.{Bytes}
 use Rattle.text.proofs.OutputLaws.{leaves-refused}
 use Rattle.rows.specs.Rows.{readRows}
@@ -50,7 +50,7 @@ returns c =
     let v = list .before in
     let count = v .before .before in
     let a = start (count .before .before) .args in
-    let ids = then-given (spendAll (Bytes 0)) (elementsOf (v .value .result .now)) (sym (ap spared (read .enum-told .given .1)) ∙ list .spare .ensures) in
+    let ids = then-given (spendAll (Bytes 0)) (elementsOf (v .value .result .now)) (sym (ap roomOf (read .enum-told .given .1)) ∙ list .room-after .ensures) in
     let n = group-none (any (same (a .action .now)) (elements (v .value .result .now)) && spec.isAction (readRows (a .file .now)) (a .action .now)) (a .action .now) (c .before .group-asked .ensures) (c .if1 .taken) in
     leaves-refused (spec.expandAction (a .file .now) (a .action .now) (a .locale .now) (a .location .now) (a .list .now) (a .run)) _ (a .out .now)
     (action-other (a .file .now) (a .action .now) (a .locale .now) (a .location .now) (a .list .now) (a .run) (granted count) (v .value .ensures) (ids .1) n)
@@ -70,7 +70,7 @@ returns-3 c =
     let a = start (count .before .before) .args in
     leaves-refused (spec.expandAction (a .file .now) (a .action .now) (a .locale .now) (a .location .now) (a .list .now) (a .run)) _ (a .out .now)
     (action-wrong (a .file .now) (a .action .now) (a .locale .now) (a .location .now) (a .list .now) (a .run) (granted count) (v .value .ensures)
-    (then-refused (spendAll (Bytes 0)) (elementsOf (v .value .result .now)) (sym (ap spared (c .before .at .given .1)) ∙ list .spare .ensures)))
+    (then-refused (spendAll (Bytes 0)) (elementsOf (v .value .result .now)) (sym (ap roomOf (c .before .at .given .1)) ∙ list .room-after .ensures)))
 
 returns-4 : tie.Need-returns-4
 returns-4 c =
@@ -81,7 +81,7 @@ returns-4 c =
     let v = list .before in
     let count = v .before .before in
     let a = start (count .before .before) .args in
-    let ids = then-given (spendAll (Bytes 0)) (elementsOf (v .value .result .now)) (sym (ap spared (read .enum-told .given .1)) ∙ list .spare .ensures) in
+    let ids = then-given (spendAll (Bytes 0)) (elementsOf (v .value .result .now)) (sym (ap roomOf (read .enum-told .given .1)) ∙ list .room-after .ensures) in
     let y = group-some (any (same (a .action .now)) (elements (v .value .result .now)) && spec.isAction (readRows (a .file .now)) (a .action .now)) (a .action .now) (asked .group-asked .ensures) (expand .before .before .if1 .left) in
     rw (action-listed (a .file .now) (a .action .now) (a .locale .now) (a .location .now) (a .list .now) (a .run) (granted count) (v .value .ensures) (ids .1) (y .0), ← y .1) (expand .expand-group .ensures)
 

@@ -1,11 +1,11 @@
 -- `batch::batch` meets its contract: what is asked first decides whether the requests are run. Assumes nothing.
 use mathlib.Core.Path.{_≡_, sym, ap, _∙_}
 use Rattle.fault.specs.Answer.{given}
-use Rattle.wellformed.specs.Pass as pass
+use Rattle.wellformed.specs.Check as check
 use Rattle.journal.specs.Journal.{Person}
 use Rattle.edit.specs.Calls as calls
-use Rattle.edit.specs.Calls.{State}
-use Rattle.edit.specs.Step.{lent, passed}
+use Rattle.edit.specs.Calls.{State, lent}
+use Rattle.edit.specs.Step.{passed}
 use Rattle.batch.proofs.Running.{not-opened, not-read}
 use borrow.Author.Needs.{needs}
 use Rattle.batch.proofs.batch.Statement.{statement}
@@ -19,7 +19,7 @@ abbrev held : tie.Start → State
 held c = lent (c .args .file .now) (c .args .size) (c .args .journal .now) (c .args .used) (c .args .standing)
 
 opened : (c : tie.After-enum-told) → given tt ≡ passed (calls.opened (held (start (c .before .before))))
-opened c = sym (ap pass.answered (c .enum-told .given .1)) ∙ c .before .before .check-lent .ensures
+opened c = sym (ap check.answered (c .enum-told .given .1)) ∙ c .before .before .check-lent .ensures
 
 run-requires : tie.Need-run-requires
 run-requires c κs = let t = c .before .before in (opened (t .before .before), sym (t .before .sound .ensures) ∙ t .if1 .taken)
@@ -27,7 +27,7 @@ run-requires c κs = let t = c .before .before in (opened (t .before .before), s
 returns-2 : tie.Need-returns-2
 returns-2 c =
     let k = c .before .before .before in
-    record { is = not-opened (held (start k)) (Person _) _ (sym (ap pass.answered (c .before .fault .given .1)) ∙ k .check-lent .ensures) }
+    record { is = not-opened (held (start k)) (Person _) _ (sym (ap check.answered (c .before .fault .given .1)) ∙ k .check-lent .ensures) }
 
 returns-3 : tie.Need-returns-3
 returns-3 c =

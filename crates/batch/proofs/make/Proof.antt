@@ -30,14 +30,14 @@ returns c a e = let h = rw (c .enum-told .given .1) at (c .before .before .read 
 returns-2 : tie.Need-returns-2
 returns-2 c a e =
     let m = c .before .before .before .before in
-    let g = m .before .before .before .before .before .before in
-    rw (← one (sym (two g .0) ∙ e)) (m .make-remove .ensures)
+    let g = m .before .before .before .before .before .before .before in
+    rw (← one (sym (two g .0) ∙ e)) (m .carry-out .ensures)
 
 returns-3 : tie.Need-returns-3
 returns-3 c a e =
     let m = c .before .before .before .before in
     let g = m .before .before .before .before .before .before .before in
-    rw (← one (sym (three g .0) ∙ e)) (m .make-set .ensures)
+    rw (← one (sym (three g .0) ∙ e)) (m .carry-out2 .ensures)
 
 pub make-spec : {M : Type 1} → statement M
 make-spec =
@@ -52,6 +52,7 @@ make-spec =
     (λ c. let r = two (c .before .before .before) in omega arith)
     (λ c. let r = two (c .before .before .before .before) in omega arith)
     (λ c. let r = two (c .before .before .before .before) in omega arith)
+    (λ c. search needs)
     (λ c. search needs)
     (λ c κs. search needs)
     (λ c. search needs)

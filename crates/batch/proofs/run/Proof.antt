@@ -7,7 +7,8 @@ use mathlib.Core.List.{List}
 use lib.ListN.{length}
 use Rattle.record.proofs.Place.{Stands, front-damaged, front-record}
 use Rattle.journal.specs.Journal.{Person}
-use Rattle.edit.specs.Step.{lent, Ready}
+use Rattle.edit.specs.Calls.{lent}
+use Rattle.edit.specs.Step.{Ready}
 use Rattle.edit.proofs.Opening.{opened-fits}
 use Rattle.batch.proofs.Running.{Running, run-begin, run-damaged, run-done, run-stopped, run-next}
 use Rattle.batch.proofs.run.Statement.{statement}

@@ -6,10 +6,10 @@ use Rattle.change.proofs.Writing.{entry-length}
 use Rattle.change.proofs.put_entry.Statement.{statement}
 use Rattle.change.proofs.put_entry.Tie as tie
 
-put-requires : tie.Need-put-requires
+put-requires : tie.Need-write-requires
 put-requires c κs = let a = c .before .before .before .before .args in omega (arith, entry-length (a .key .now) (a .text .now))
 
-put-requires-2 : tie.Need-put-requires-2
+put-requires-2 : tie.Need-write-requires-2
 put-requires-2 c κs =
     let p = c .before .before .before .before in
     let a = p .before .before .before .before .before .args in
@@ -29,7 +29,7 @@ returns c =
     let p = q .before .before .before .before .before in
     let a = p .before .before .before .before .before .args in
     let n = entry-length (a .key .now) (a .text .now) in
-    write-then (write-then (p .put .ensures) (q .put2 .ensures) (omega arith)) (r .put-raw .ensures) (omega arith)
+    write-then (write-then (p .write .ensures) (q .write2 .ensures) (omega arith)) (r .put-raw .ensures) (omega arith)
 
 pub put-entry-spec : {M : Type 1} → statement M
 put-entry-spec =

@@ -1,5 +1,5 @@
 -- `put_raw` meets its contract: what is written to a tail stands there. Assumes nothing.
-use Rattle.change.proofs.Writing.{write-lent}
+use Rattle.base.proofs.Over.{write-lent}
 use borrow.Author.Needs.{needs}
 use Rattle.change.proofs.put_raw.Statement.{statement}
 use Rattle.change.proofs.put_raw.Tie as tie

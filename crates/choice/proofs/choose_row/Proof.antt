@@ -5,7 +5,7 @@ use lib.ListN.{length}
 use lib.Dec.{eqb}
 use Rattle.base.specs.Lists.{all}
 use Rattle.base.proofs.Tests.{and-both}
-use Rattle.text.specs.Class.{keyByte}
+use Rattle.characters.specs.Class.{keyByte}
 use Rattle.line.specs.Form.{plainForm}
 use borrow.Author.Needs.{needs}
 use Rattle.rows.specs.Rows.{readRows}

@@ -5,7 +5,6 @@ use mathlib.Core.Path.{sym, _∙_}
 use mathlib.Core.Logic.{⊎-elim}
 use lib.ListN.{length}
 use Prim.Native.Nat.{_+_, _-_}
-use Rattle.base.specs.Lists.{part}
 use Rattle.rows.proofs.Step.{end-le}
 use Rattle.rows.proofs.Seek.{value-fits, seek-good}
 use Rattle.choice.specs.Step.{allKeys}

@@ -12,8 +12,7 @@ use Rattle.record.specs.Record.{recordBytes}
 use Rattle.splice.specs.Edit.{Edit, spliced, replaced, bufferWith}
 use Rattle.journal.specs.Journal.{Person, Authored, by, editRecord}
 use Rattle.change.specs.Target.{newBytes}
-use Rattle.edit.specs.Calls.{State, content}
-use Rattle.edit.specs.Step.{lent}
+use Rattle.edit.specs.Calls.{State, content, lent}
 use Rattle.edit.proofs.Applying.{length-spliced, part-take, file-full, file-most, journal-full, journal-most, all-made}
 use borrow.Author.Needs.{needs}
 use Rattle.edit.proofs.make.Statement.{statement}

@@ -6,7 +6,7 @@ use Prim.Native.Nat.{ℕ}
 use lib.ListN.{length}
 use Rattle.fault.specs.declared.Fault.the-variants.{UnfitText}
 use Rattle.fault.specs.Answer.{given, _>>=_, need, then}
-use Rattle.wellformed.specs.Pass as pass
+use Rattle.wellformed.specs.Check as pass
 use Rattle.record.proofs.Bodies.{count-reads, count-refuses}
 use Rattle.exec.specs.Expand.{askedItems, fitLocation}
 use borrow.Author.Needs.{needs}

@@ -5,7 +5,7 @@ use lib.Seq.{length-take-le}
 use Rattle.base.specs.Lists.{ascii}
 use Rattle.rows.specs.Title.{Key}
 use Rattle.command.specs.Step.{checkedAs}
-use Rattle.exec.specs.Step.{itemsIn}
+use Rattle.run.specs.Step.{itemsIn}
 use Rattle.exec.proofs.Values.{key-value, value-short, text-given}
 use Rattle.exec.proofs.Expanding.{refused-leaves, group-missing, group-unread, group-short, group-wrong, group-right}
 use borrow.Author.Needs.{needs}

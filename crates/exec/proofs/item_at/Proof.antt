@@ -1,10 +1,10 @@
 -- `item_at` meets its contract: the record that is found holds the item. Assumes nothing.
 use mathlib.Core.Path.{sym, _∙_}
 use lib.ListN.{List·getD-eq-default}
-use Rattle.record.specs.Record.{listMost}
+use Rattle.base.specs.Bounds.{listMost}
 use Rattle.record.proofs.Bodies.{list-cut}
 use Rattle.record.proofs.Seek.{nth-body, nth-past}
-use Rattle.exec.specs.Step.{itemsIn}
+use Rattle.run.specs.Step.{itemsIn}
 use Rattle.exec.proofs.Asking.{reads-some}
 use mathlib.Core.List.{[]}
 use borrow.Author.Needs.{needs}

@@ -1,5 +1,5 @@
 -- `kveldrim_check` meets its contract: it is the call. Assumes nothing.
-use Rattle.kveldrim.proofs.Telling.{same-returned}
+use Rattle.abi.proofs.Telling.{same-returned}
 use borrow.Author.Needs.{needs}
 use Rattle.kveldrim.proofs.kveldrim_check.Statement.{statement}
 use Rattle.kveldrim.proofs.kveldrim_check.Tie as tie

@@ -1,5 +1,5 @@
 -- `kveldrim_choose` meets its contract: it is the call. Assumes nothing.
-use Rattle.kveldrim.proofs.Telling.{same-ends}
+use Rattle.abi.proofs.Telling.{same-ends}
 use borrow.Author.Needs.{needs}
 use Rattle.kveldrim.proofs.kveldrim_choose.Statement.{statement}
 use Rattle.kveldrim.proofs.kveldrim_choose.Tie as tie

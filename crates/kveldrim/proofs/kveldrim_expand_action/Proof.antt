@@ -1,5 +1,5 @@
 -- `kveldrim_expand_action` meets its contract: it is the call. Assumes nothing.
-use Rattle.kveldrim.proofs.Telling.{same-number}
+use Rattle.abi.proofs.Telling.{same-number}
 use borrow.Author.Needs.{needs}
 use Rattle.kveldrim.proofs.kveldrim_expand_action.Statement.{statement}
 use Rattle.kveldrim.proofs.kveldrim_expand_action.Tie as tie

@@ -1,5 +1,5 @@
 -- `kveldrim_lookup` meets its contract: it is the call. Assumes nothing.
-use Rattle.kveldrim.proofs.Telling.{same-ends}
+use Rattle.abi.proofs.Telling.{same-ends}
 use borrow.Author.Needs.{needs}
 use Rattle.kveldrim.proofs.kveldrim_lookup.Statement.{statement}
 use Rattle.kveldrim.proofs.kveldrim_lookup.Tie as tie

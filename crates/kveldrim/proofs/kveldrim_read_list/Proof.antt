@@ -1,6 +1,6 @@
 -- `kveldrim_read_list` meets its contract: it is the call. Assumes nothing.
-use Rattle.kveldrim.proofs.Telling.{same-no-byte}
-use Rattle.kveldrim.proofs.NoByte.{list-zero}
+use Rattle.abi.proofs.Telling.{same-no-byte}
+use Rattle.abi.proofs.NoByte.{list-zero}
 use borrow.Author.Needs.{needs}
 use Rattle.kveldrim.proofs.kveldrim_read_list.Statement.{statement}
 use Rattle.kveldrim.proofs.kveldrim_read_list.Tie as tie

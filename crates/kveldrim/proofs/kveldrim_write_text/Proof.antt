@@ -1,6 +1,6 @@
 -- `kveldrim_write_text` meets its contract: it is the call. Assumes nothing.
-use Rattle.kveldrim.proofs.Telling.{same-no-byte}
-use Rattle.kveldrim.proofs.NoByte.{write-zero}
+use Rattle.abi.proofs.Telling.{same-no-byte}
+use Rattle.abi.proofs.NoByte.{write-zero}
 use borrow.Author.Needs.{needs}
 use Rattle.kveldrim.proofs.kveldrim_write_text.Statement.{statement}
 use Rattle.kveldrim.proofs.kveldrim_write_text.Tie as tie

@@ -1,5 +1,4 @@
 -- `rows::clear` meets its contract: while n is 0 no LF has been passed. Assumes nothing.
-use borrow.Author.Needs.{needs}
 use borrow.Author.Tests.{eq-eqb, ne-eqb}
 use native.Mathlib.Omega.{arith}
 use mathlib.Core.Path.{_≡_, refl, sym, _∙_}

@@ -4,7 +4,6 @@ use native.Mathlib.Omega.{arith}
 use mathlib.Core.Logic.{⊎-elim}
 use lib.ListN.{length}
 use Prim.Native.Nat.{_-_}
-use Rattle.base.specs.Lists.{part}
 use Rattle.rows.specs.Rows.{readRows}
 use Rattle.rows.specs.Title.{Key}
 use Rattle.rows.proofs.Step.{end-le}

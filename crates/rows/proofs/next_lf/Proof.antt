@@ -1,6 +1,5 @@
 -- `rows::next_lf` meets its contract: what is left to find from `i` is the whole answer, and it is inside. Assumes nothing.
 use Rattle.rows.proofs.Step.{line-ends, line-goes}
-use borrow.Author.Needs.{needs}
 use native.Mathlib.Omega.{arith}
 use mathlib.Core.Path.{_≡_, refl}
 use lib.ListN.{length, drop}

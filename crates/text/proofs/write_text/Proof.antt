@@ -2,7 +2,7 @@
 use native.Mathlib.Omega.{arith}
 use mathlib.Core.Path.{sym, ap, _∙_}
 use Rattle.text.specs.Escape.{writeText}
-use Rattle.text.specs.Step.{faultOf}
+use Rattle.characters.specs.Step.{faultOf}
 use Rattle.fault.specs.declared.Fault.the-variants.{UnfitText}
 use Rattle.text.proofs.OutputLaws.{leaves-refused, leaves-full, leaves-written}
 use Rattle.text.proofs.Writing.{fit-written, unfit-written}

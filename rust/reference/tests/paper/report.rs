@@ -1,4 +1,4 @@
-//! The report of the program `crates/examples`, made from the reference's answers. The questions are written here again.
+//! The reports of the programs `crates/examples_*`, made from the reference's answers. The questions are written here again.
 
 use crate::common::{records, request, with_header, T};
 use reference::{
@@ -499,13 +499,19 @@ fn texts() -> Vec<String> {
     ]
 }
 
-#[test]
-fn the_program_reports_the_same() {
-    let path = concat!(env!("CARGO_MANIFEST_DIR"), "/../../crates/examples/stdout");
+/// The report of a program is these lines.
+fn reports(program: &str, lines: Vec<String>) {
+    let path = format!("{}/../../crates/{program}/stdout", env!("CARGO_MANIFEST_DIR"));
     let report = std::fs::read_to_string(path).unwrap();
-    let lines = [files(), values(), texts(), edits(), commands(), submenus()].concat();
     for (line, expected) in report.lines().zip(&lines) {
         assert_eq!(line, expected);
     }
     assert_eq!(report, lines.join("\n") + "\n");
+}
+
+#[test]
+fn the_programs_report_the_same() {
+    reports("examples_files", [files(), values(), texts()].concat());
+    reports("examples_edits", edits());
+    reports("examples_commands", [commands(), submenus()].concat());
 }

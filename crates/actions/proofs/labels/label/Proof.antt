@@ -1,6 +1,6 @@
 -- `labels::label` meets its contract: the ends chosen tell the value. Assumes nothing.
 use Rattle.base.specs.Lists.{all}
-use Rattle.text.specs.Class.{keyByte}
+use Rattle.characters.specs.Class.{keyByte}
 use Rattle.line.specs.Form.{plainForm}
 use Rattle.exec.proofs.Values.{chosen-within}
 use Rattle.actions.proofs.Labelling.{label-chosen}

@@ -1,7 +1,6 @@
 -- `labels::put_action` meets its contract: the identifier's record, and the label's right behind it. Assumes nothing.
 use mathlib.Core.Path.{_≡_, ap, _∙_}
 use mathlib.Core.Bool.{true}
-use mathlib.Core.List.{List}
 use Rattle.base.specs.Lists.{part}
 use Rattle.text.specs.Escape.{readText}
 use Rattle.rows.specs.Rows.{readRows}

@@ -25,26 +25,26 @@ put-action-requires c κs =
     let e = c .before in
     let l = e .before .before in
     let s = l .before .before .before .before .before in
-    let b = element-end (s .args .raw .now) (l .loop .i) (search needs) (e .element-end .ensures) in
-    (s .pre .0, s .pre .1, b .0, b .1, next-sound _ _ _ (l .loop .inv) (search needs) (e .element-end .ensures), next-room _ _ _ (l .loop .inv) (search needs) (e .element-end .ensures))
+    let b = element-end (s .args .raw .now) (l .loop .i) (search needs) (e .bare-end .ensures) in
+    (s .pre .0, s .pre .1, b .0, b .1, next-sound _ _ _ (l .loop .inv) (search needs) (e .bare-end .ensures), next-room _ _ _ (l .loop .inv) (search needs) (e .bare-end .ensures))
 
 add-i : tie.Need-add-i Inv-loop μ-loop
 add-i c =
     let e = c .before .before .before .before in
     let l = e .before .before in
-    omega (arith, element-end (l .before .before .before .before .before .args .raw .now) (l .loop .i) (search needs) (e .element-end .ensures))
+    omega (arith, element-end (l .before .before .before .before .before .args .raw .now) (l .loop .i) (search needs) (e .bare-end .ensures))
 
 loop-less : tie.Need-loop-less Inv-loop μ-loop
 loop-less c =
     let e = c .before .before .before .before in
     let l = e .before .before in
-    omega (arith, element-end (l .before .before .before .before .before .args .raw .now) (l .loop .i) (search needs) (e .element-end .ensures))
+    omega (arith, element-end (l .before .before .before .before .before .args .raw .now) (l .loop .i) (search needs) (e .bare-end .ensures))
 
 loop-again : tie.Need-loop-again Inv-loop μ-loop
 loop-again c =
     let put = c .before .before in
     let e = put .before .before in
-    fill-next _ _ _ (e .before .before .loop .inv) (search needs) (e .element-end .ensures) (put .put-action .ensures)
+    fill-next _ _ _ (e .before .before .loop .inv) (search needs) (e .bare-end .ensures) (put .put-action .ensures)
 
 pub put-all-spec : {M : Type 1} → statement M
 put-all-spec =

@@ -2,7 +2,7 @@
 use mathlib.Core.Path.{sym, ap, _∙_}
 use mathlib.Core.List.{[]}
 use Rattle.fault.specs.Answer.{given}
-use Rattle.text.specs.Step.{spared}
+use Rattle.text.specs.Step.{roomOf}
 use Rattle.text.specs.declared.Left.{Left}
 use Rattle.rows.specs.Rows.{readRows}
 use Rattle.actions.specs.Actions.{listedFrom, labelled}
@@ -21,7 +21,7 @@ put-all-requires c κs =
     let a = s .args in
     let rs = readRows (a .file .now) in
     let f = records-fit (labelled rs (a .locale .now) (listedFrom rs [] (elements (a .raw .now)))) (a .out .now)
-    (ap (λ (l : Left). given l) (sym (room .enum-told2 .given .1)) ∙ sym (ap spared (k .left .given .1)) ∙ m .all-left .ensures) in
+    (ap (λ (l : Left). given l) (sym (room .enum-told2 .given .1)) ∙ sym (ap roomOf (k .left .given .1)) ∙ m .all-left .ensures) in
     (s .pre .0, s .pre .1, f .0, f .1)
 
 returns : tie.Need-returns
@@ -29,7 +29,7 @@ returns c =
     let m = c .before .before .before in
     let a = m .before .before .before .before .before .args in
     let rs = readRows (a .file .now) in
-    records-wrong (labelled rs (a .locale .now) (listedFrom rs [] (elements (a .raw .now)))) (a .out .now) (sym (ap spared (c .before .at .given .1)) ∙ m .all-left .ensures)
+    records-wrong (labelled rs (a .locale .now) (listedFrom rs [] (elements (a .raw .now)))) (a .out .now) (sym (ap roomOf (c .before .at .given .1)) ∙ m .all-left .ensures)
 
 returns-2 : tie.Need-returns-2
 returns-2 c =
@@ -38,7 +38,7 @@ returns-2 c =
     let a = m .before .before .before .before .before .args in
     let rs = readRows (a .file .now) in
     records-short (labelled rs (a .locale .now) (listedFrom rs [] (elements (a .raw .now)))) (a .out .now)
-    (ap (λ (l : Left). given l) (sym (c .enum-told .given .1)) ∙ sym (ap spared (k .left .given .1)) ∙ m .all-left .ensures)
+    (ap (λ (l : Left). given l) (sym (c .enum-told .given .1)) ∙ sym (ap roomOf (k .left .given .1)) ∙ m .all-left .ensures)
 
 returns-3 : tie.Need-returns-3
 returns-3 c =
@@ -49,7 +49,7 @@ returns-3 c =
     let a = m .before .before .before .before .before .args in
     let rs = readRows (a .file .now) in
     records-put (labelled rs (a .locale .now) (listedFrom rs [] (elements (a .raw .now)))) (a .out .now)
-    (ap (λ (l : Left). given l) (sym (room .enum-told2 .given .1)) ∙ sym (ap spared (k .left .given .1)) ∙ m .all-left .ensures) (put .put-all .ensures)
+    (ap (λ (l : Left). given l) (sym (room .enum-told2 .given .1)) ∙ sym (ap roomOf (k .left .given .1)) ∙ m .all-left .ensures) (put .put-all .ensures)
 
 pub write-all-spec : {M : Type 1} → statement M
 write-all-spec =

@@ -2,7 +2,6 @@
 use native.Mathlib.Omega.{arith}
 use mathlib.Core.Path.{sym, _∙_}
 use mathlib.Core.Bool.{and-false, and-true}
-use lib.ListN.{length}
 use lib.Seq.{length-take-le}
 use Rattle.base.specs.Lists.{part}
 use Rattle.rows.specs.Rows.{readRows}

@@ -20,12 +20,12 @@ abbrev μ-loop : tie.MeasureT-loop
 sub-same : tie.Need-sub-same Inv-loop μ-loop
 sub-same c =
     let l = c .before .before in
-    element-end (l .before .before .before .args .raw .now) (l .loop .i) (search needs) (c .element-end .ensures) .0
+    element-end (l .before .before .before .args .raw .now) (l .loop .i) (search needs) (c .bare-end .ensures) .0
 
 part-same-end : tie.Need-part-same-end Inv-loop μ-loop
 part-same-end c =
     let l = c .before .before in
-    element-end (l .before .before .before .args .raw .now) (l .loop .i) (search needs) (c .element-end .ensures) .1
+    element-end (l .before .before .before .args .raw .now) (l .loop .i) (search needs) (c .bare-end .ensures) .1
 
 returns : tie.Need-returns Inv-loop μ-loop
 unfolding any
@@ -33,7 +33,7 @@ returns c =
     let e = c .before .before .before in
     let l = e .before .before in
     let a = l .before .before .before .args in
-    rw (split (a .raw .now) (l .loop .i) (search needs) (e .element-end .ensures), sym (c .before .same .ensures) ∙ c .if1 .taken) at (l .loop .inv)
+    rw (split (a .raw .now) (l .loop .i) (search needs) (e .bare-end .ensures), sym (c .before .same .ensures) ∙ c .if1 .taken) at (l .loop .inv)
 
 add-i : tie.Need-add-i Inv-loop μ-loop
 add-i c = let e = c .before .before .before in omega (arith, part-same-end e)
@@ -47,7 +47,7 @@ loop-again c =
     let e = c .before .before .before in
     let l = e .before .before in
     let a = l .before .before .before .args in
-    rw (split (a .raw .now) (l .loop .i) (search needs) (e .element-end .ensures), sym (c .before .same .ensures) ∙ c .if1 .left) at (l .loop .inv)
+    rw (split (a .raw .now) (l .loop .i) (search needs) (e .bare-end .ensures), sym (c .before .same .ensures) ∙ c .if1 .left) at (l .loop .inv)
 
 returns-2 : tie.Need-returns-2 Inv-loop μ-loop
 unfolding any

@@ -1,6 +1,6 @@
 -- `listed::value` meets its contract: what finding the row tells is its value. Assumes nothing.
 use mathlib.Core.Path.{sym, _∙_}
-use Rattle.base.specs.Lists.{ascii, part}
+use Rattle.base.specs.Lists.{ascii}
 use Rattle.rows.specs.Rows.{readRows}
 use Rattle.rows.specs.Title.{Key, desktopEntry, findRow}
 use Rattle.rows.proofs.Told.{told-nothing}

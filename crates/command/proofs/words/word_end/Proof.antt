@@ -9,7 +9,7 @@ returns c =
     let at-quote-end = c .before in
     let at-if1 = at-quote-end .before in
     let start = at-if1 .before .before .before in
-    word-quoted (start .args .s .now) (start .args .from) (at-if1 .if1 .taken) (at-quote-end .quote-end .ensures) (c .space-at .ensures)
+    word-quoted (start .args .s .now) (start .args .from) (at-if1 .if1 .taken) (at-quote-end .bare-end .ensures) (c .space-at .ensures)
 
 returns-2 : tie.Need-returns-2
 returns-2 c = word-bare (c .before .before .before .before .args .s .now) (c .before .before .before .before .args .from) (c .before .if1 .left) (c .space-at2 .ensures)

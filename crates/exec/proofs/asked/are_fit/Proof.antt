@@ -9,8 +9,8 @@ use Prim.Native.Nat.{ℕ}
 use Rattle.base.specs.Lists.{all}
 use Rattle.record.proofs.Place.{front-damaged, front-record}
 use Rattle.exec.specs.Expand.{fitItem}
-use Rattle.exec.specs.Step.{itemsIn}
-use Rattle.exec.proofs.Writing.{Items, itemsAt, items-start, items-damaged, items-next, items-cons, items-done}
+use Rattle.run.specs.Step.{itemsIn}
+use Rattle.run.proofs.Writing.{Items, itemsAt, items-start, items-damaged, items-next, items-cons, items-done}
 use Rattle.exec.proofs.asked.are_fit.Statement.{statement}
 use Rattle.exec.proofs.asked.are_fit.Tie as tie
 

@@ -3,7 +3,7 @@ use native.Mathlib.Omega.{arith}
 use Rattle.text.specs.Escape.{textFrom, readText}
 use Rattle.exec.proofs.Values.{chosen-within, icon-chosen, icon-unasked, read-none}
 use Rattle.base.specs.Lists.{all}
-use Rattle.text.specs.Class.{keyByte}
+use Rattle.characters.specs.Class.{keyByte}
 use Rattle.line.specs.Form.{plainForm}
 use borrow.Author.Needs.{needs}
 use Rattle.exec.proofs.texts.icon_text.Statement.{statement}

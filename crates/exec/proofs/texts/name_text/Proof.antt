@@ -2,7 +2,7 @@
 use native.Mathlib.Omega.{arith}
 use Rattle.exec.proofs.Values.{chosen-within, name-chosen, name-unasked, read-none, read-refused}
 use Rattle.base.specs.Lists.{all}
-use Rattle.text.specs.Class.{keyByte}
+use Rattle.characters.specs.Class.{keyByte}
 use Rattle.line.specs.Form.{plainForm}
 use borrow.Author.Needs.{needs}
 use Rattle.exec.proofs.texts.name_text.Statement.{statement}

@@ -1,5 +1,5 @@
 -- `kveldrim_batch` meets its contract: it is the call. Assumes nothing.
-use Rattle.kveldrim.proofs.Telling.{called-batch}
+use Rattle.abi.proofs.Telling.{called-batch}
 use borrow.Author.Needs.{needs}
 use Rattle.kveldrim.proofs.edits.kveldrim_batch.Statement.{statement}
 use Rattle.kveldrim.proofs.edits.kveldrim_batch.Tie as tie

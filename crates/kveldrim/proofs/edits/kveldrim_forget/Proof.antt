@@ -1,6 +1,6 @@
 -- `kveldrim_forget` meets its contract: it is the call. Assumes nothing.
 use borrow.Author.Needs.{needs}
-use Rattle.kveldrim.proofs.Telling.{forgot-done, forgot-refused}
+use Rattle.abi.proofs.Telling.{forgot-done, forgot-refused}
 use Rattle.kveldrim.proofs.edits.kveldrim_forget.Statement.{statement}
 use Rattle.kveldrim.proofs.edits.kveldrim_forget.Tie as tie
 

@@ -1,6 +1,6 @@
 -- `kveldrim_person` meets its contract: it is the call. Assumes nothing.
-use Rattle.kveldrim.proofs.Telling.{same-no-byte}
-use Rattle.kveldrim.proofs.NoByte.{person-zero}
+use Rattle.abi.proofs.Telling.{same-no-byte}
+use Rattle.abi.proofs.NoByte.{person-zero}
 use borrow.Author.Needs.{needs}
 use Rattle.kveldrim.proofs.edits.kveldrim_person.Statement.{statement}
 use Rattle.kveldrim.proofs.edits.kveldrim_person.Tie as tie

@@ -1,5 +1,5 @@
 -- `kveldrim_set` meets its contract: it is the call. Assumes nothing.
-use Rattle.kveldrim.proofs.Telling.{called}
+use Rattle.abi.proofs.Telling.{called}
 use borrow.Author.Needs.{needs}
 use Rattle.kveldrim.proofs.edits.kveldrim_set.Statement.{statement}
 use Rattle.kveldrim.proofs.edits.kveldrim_set.Tie as tie

@@ -2,7 +2,7 @@
 use mathlib.Core.Path.{_∙_}
 use Rattle.base.proofs.Span.{span-all}
 use native.Mathlib.Nat.{zero-add}
-use Rattle.text.specs.Class.{member}
+use Rattle.characters.specs.Class.{member}
 use borrow.Author.Needs.{needs}
 use Rattle.line.proofs.form.all_in.Statement.{statement}
 use Rattle.line.proofs.form.all_in.Tie as tie

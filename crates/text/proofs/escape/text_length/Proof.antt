@@ -21,25 +21,25 @@ add-i c =
     let m = c .before .before in
     let l = m .before .before .before in
     let a = l .before .before .args in
-    omega (arith, byte-within (a .k) (a .raw .now) (l .loop .i) (search needs) (sym (c .before .width .given .1) ∙ m .before .piece .ensures))
+    omega (arith, byte-within (a .k) (a .raw .now) (l .loop .i) (search needs) (sym (c .before .width .given .1) ∙ m .before .decode .ensures))
 
 loop-less : tie.Need-loop-less Inv-loop μ-loop
 loop-less c =
     let m = c .before .before in
     let l = m .before .before .before in
     let a = l .before .before .args in
-    omega (arith, byte-within (a .k) (a .raw .now) (l .loop .i) (search needs) (sym (c .before .width .given .1) ∙ m .before .piece .ensures))
+    omega (arith, byte-within (a .k) (a .raw .now) (l .loop .i) (search needs) (sym (c .before .width .given .1) ∙ m .before .decode .ensures))
 
 loop-again : tie.Need-loop-again Inv-loop μ-loop
 loop-again c =
     let m = c .before .before in
     let l = m .before .before .before in
-    measured-byte (l .loop .inv) (search needs) (sym (c .before .width .given .1) ∙ m .before .piece .ensures)
+    measured-byte (l .loop .inv) (search needs) (sym (c .before .width .given .1) ∙ m .before .decode .ensures)
 
 returns : tie.Need-returns Inv-loop μ-loop
 returns c =
     let m = c .before in
-    measured-wrong (m .before .before .before .loop .inv) (search needs) (sym (c .enum-told .given .1) ∙ m .before .piece .ensures)
+    measured-wrong (m .before .before .before .loop .inv) (search needs) (sym (c .enum-told .given .1) ∙ m .before .decode .ensures)
 
 pub text-length-spec : {M : Type 1} → statement M
 text-length-spec =

@@ -26,36 +26,36 @@ loop-holds c =
 slice-write-out : tie.Need-slice-write-out Inv-loop μ-loop
 slice-write-out c =
     let m = c .before .before in
-    reading-room (m .before .before .before .loop .inv) (search needs) (sym (c .before .byte .given .1) ∙ m .before .piece .ensures)
+    reading-room (m .before .before .before .loop .inv) (search needs) (sym (c .before .byte .given .1) ∙ m .before .decode .ensures)
 
 add-i : tie.Need-add-i Inv-loop μ-loop
 add-i c =
     let m = c .before .before in
     let l = m .before .before .before in
     let a = l .before .before .before .args in
-    omega (arith, byte-within (a .k) (a .raw .now) (l .loop .i) (search needs) (sym (c .before .byte .given .1) ∙ m .before .piece .ensures))
+    omega (arith, byte-within (a .k) (a .raw .now) (l .loop .i) (search needs) (sym (c .before .byte .given .1) ∙ m .before .decode .ensures))
 
 add-n : tie.Need-add-n Inv-loop μ-loop
 add-n c =
     let m = c .before .before in
-    omega (arith, reading-room (m .before .before .before .loop .inv) (search needs) (sym (c .before .byte .given .1) ∙ m .before .piece .ensures))
+    omega (arith, reading-room (m .before .before .before .loop .inv) (search needs) (sym (c .before .byte .given .1) ∙ m .before .decode .ensures))
 
 loop-less : tie.Need-loop-less Inv-loop μ-loop
 loop-less c =
     let m = c .before .before in
     let l = m .before .before .before in
     let a = l .before .before .before .args in
-    omega (arith, byte-within (a .k) (a .raw .now) (l .loop .i) (search needs) (sym (c .before .byte .given .1) ∙ m .before .piece .ensures))
+    omega (arith, byte-within (a .k) (a .raw .now) (l .loop .i) (search needs) (sym (c .before .byte .given .1) ∙ m .before .decode .ensures))
 
 loop-again : tie.Need-loop-again Inv-loop μ-loop
 loop-again c =
     let m = c .before .before in
-    reading-byte (m .before .before .before .loop .inv) (search needs) (sym (c .before .byte .given .1) ∙ m .before .piece .ensures)
+    reading-byte (m .before .before .before .loop .inv) (search needs) (sym (c .before .byte .given .1) ∙ m .before .decode .ensures)
 
 returns : tie.Need-returns Inv-loop μ-loop
 returns c =
     let m = c .before in
-    reading-wrong (m .before .before .before .loop .inv) (search needs) (sym (c .enum-told .given .1) ∙ m .before .piece .ensures)
+    reading-wrong (m .before .before .before .loop .inv) (search needs) (sym (c .enum-told .given .1) ∙ m .before .decode .ensures)
 
 pub unescape-spec : {M : Type 1} → statement M
 unescape-spec =

@@ -18,7 +18,7 @@ sub-put c =
     let e = c in
     let l = e .before .before in
     let a = l .before .before .before .args in
-    let b = element-end (a .raw .now) (l .loop .i) (search needs) (e .element-end .ensures) in
+    let b = element-end (a .raw .now) (l .loop .i) (search needs) (e .bare-end .ensures) in
     b .0
 
 part-put-start : tie.Need-part-put-start Inv-loop μ-loop
@@ -26,7 +26,7 @@ part-put-start c =
     let e = c in
     let l = e .before .before in
     let a = l .before .before .before .args in
-    let b = element-end (a .raw .now) (l .loop .i) (search needs) (e .element-end .ensures) in
+    let b = element-end (a .raw .now) (l .loop .i) (search needs) (e .bare-end .ensures) in
     b .0
 
 part-put-end : tie.Need-part-put-end Inv-loop μ-loop
@@ -34,31 +34,31 @@ part-put-end c =
     let e = c in
     let l = e .before .before in
     let a = l .before .before .before .args in
-    let b = element-end (a .raw .now) (l .loop .i) (search needs) (e .element-end .ensures) in
+    let b = element-end (a .raw .now) (l .loop .i) (search needs) (e .bare-end .ensures) in
     b .1
 
 put-requires : tie.Need-put-requires Inv-loop μ-loop
 put-requires c κs =
     let e = c .before .before in
     let l = e .before .before in
-    (own-sound (l .loop .inv) (search needs) (e .element-end .ensures), listing-room (l .loop .inv) (search needs) (e .element-end .ensures))
+    (own-sound (l .loop .inv) (search needs) (e .bare-end .ensures), listing-room (l .loop .inv) (search needs) (e .bare-end .ensures))
 
 add-i : tie.Need-add-i Inv-loop μ-loop
 add-i c =
     let e = c .before .before .before .before .before in
     let l = e .before .before in
-    omega (arith, element-end (l .before .before .before .args .raw .now) (l .loop .i) (search needs) (e .element-end .ensures))
+    omega (arith, element-end (l .before .before .before .args .raw .now) (l .loop .i) (search needs) (e .bare-end .ensures))
 
 loop-less : tie.Need-loop-less Inv-loop μ-loop
 loop-less c =
     let e = c .before .before .before .before .before in
     let l = e .before .before in
-    omega (arith, element-end (l .before .before .before .args .raw .now) (l .loop .i) (search needs) (e .element-end .ensures))
+    omega (arith, element-end (l .before .before .before .args .raw .now) (l .loop .i) (search needs) (e .bare-end .ensures))
 
 loop-again : tie.Need-loop-again Inv-loop μ-loop
 loop-again c =
     let e = c .before .before .before .before .before in
-    listing-next (e .before .before .loop .inv) (search needs) (e .element-end .ensures) (c .before .before .put .ensures)
+    listing-next (e .before .before .loop .inv) (search needs) (e .bare-end .ensures) (c .before .before .put .ensures)
 
 pub write-spec : {M : Type 1} → statement M
 write-spec =
