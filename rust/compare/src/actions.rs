@@ -7,7 +7,8 @@ use reference::lines::{read_line, split_lines, Line};
 use reference::Refusal;
 
 use crate::asker::{bound, named, Asker, OutputCall};
-use crate::expand::{self, fill_file, lines_of, raw, raw_command, split, wrong_raw, FILE_BOUND};
+use crate::bounds::FILE_BOUND;
+use crate::expand::{self, fill_file, lines_of, raw, raw_command, split, wrong_raw};
 use crate::files::{counted, spoil};
 use crate::lent::Output;
 use crate::pieces::{self, BORDERS};

@@ -2,13 +2,14 @@
 
 use reference::State;
 
+use crate::bounds::{FILE_BOUND, JOURNAL_BOUND, LIST_BOUND};
 use crate::case::Case;
 use crate::edits::{list_of, Call, List};
 use crate::files::{self, Ask};
 use crate::journals;
 use crate::pieces;
 use crate::random::Random;
-use crate::requests::{first_record, record, BOUND};
+use crate::requests::{first_record, record};
 use crate::singles;
 
 /// The file of [`long`].
@@ -70,7 +71,7 @@ pub fn on_bad_file(random: &mut Random) -> Case {
 pub fn near_file_bound(random: &mut Random) -> Case {
     let file = files::near_bound(random);
     let more = random.below(40);
-    let start = journals::buffers(&file, more, BOUND, random);
+    let start = journals::buffers(&file, more, JOURNAL_BOUND, random);
     on_state(start, 10, random)
 }
 
@@ -103,13 +104,13 @@ pub fn tight(random: &mut Random) -> Case {
 /// A batch with a list of almost 65,536 bytes, of just so many or of more, in buffers with room for all edits or for some.
 pub fn long(random: &mut Random) -> Case {
     let length = match random.below(3) {
-        0 => random.within(60_000, BOUND),
-        _ => random.within(BOUND - 2, BOUND + 2),
+        0 => random.within(60_000, LIST_BOUND),
+        _ => random.within(LIST_BOUND - 2, LIST_BOUND + 2),
     };
     let rooms = [
-        (32_768, BOUND),
-        (32_768, 90_000),
-        (2_000, BOUND),
+        (FILE_BOUND, JOURNAL_BOUND),
+        (FILE_BOUND, 90_000),
+        (2_000, JOURNAL_BOUND),
         (9_000, 30_000),
     ];
     let (file_room, journal_room) = rooms[random.below(rooms.len())];
@@ -174,7 +175,7 @@ fn spoil(list: &mut Vec<u8>, random: &mut Random) {
             change(list, two, |length| length.wrapping_sub(by));
         }
         9 if random.once_in(20) => {
-            let text = vec![b'x'; BOUND - random.below(60)];
+            let text = vec![b'x'; LIST_BOUND - random.below(60)];
             list.extend(record(5, &[b"Desktop Entry", b"Name", &text]));
         }
         10 => drop(list.splice(start..start, wrapped(random))),

@@ -8,15 +8,11 @@ use kveldrim::DESKTOP_ENTRY;
 use reference::Refusal;
 
 use crate::asker::{refusal, Asker};
+use crate::bounds::{FILE_BOUND, LIST_BOUND, LOCATION_BOUND};
 use crate::files::spoil;
 use crate::lent::Output;
 use crate::pieces::{self, MULLER};
 use crate::random::Random;
-
-/// "A file is at most 32,768 bytes", "over 65,536 bytes in all", "the location is at most 4,096 bytes".
-pub(crate) const FILE_BOUND: usize = 32_768;
-const LIST_BOUND: usize = 65_536;
-const LOCATION_BOUND: usize = 4_096;
 
 /// The arguments of an expansion but for its output.
 #[derive(Clone)]

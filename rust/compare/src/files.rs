@@ -2,13 +2,11 @@
 
 use reference::lines::{read_line, split_lines, Line};
 
+use crate::bounds::FILE_BOUND;
 use crate::pieces::{self, BORDERS, KEY_BYTES, MULLER};
 use crate::random::Random;
 
 const HEADER: &[u8] = b"[Desktop Entry]\n";
-
-/// "A file is at most 32,768 bytes."
-const BOUND: usize = 32_768;
 
 /// The arguments of a lookup (group, key) and of a choice (group, plain key, locale).
 #[derive(Clone)]
@@ -411,9 +409,9 @@ pub fn near_bound(random: &mut Random) -> Vec<u8> {
         file.push(b'\n');
     }
     let length = match random.below(8) {
-        0 => BOUND + random.within(1, 3_000),
-        1 => BOUND - random.within(0, 3_000),
-        _ => BOUND - 3 + random.below(7),
+        0 => FILE_BOUND + random.within(1, 3_000),
+        1 => FILE_BOUND - random.within(0, 3_000),
+        _ => FILE_BOUND - 3 + random.below(7),
     };
     let fill = length.saturating_sub(file.len() + 2);
     match random.below(3) {
@@ -470,7 +468,7 @@ pub fn long_names(random: &mut Random) -> Question {
     random.shuffle(&mut postfixes);
     for postfix in &postfixes {
         let line = [&postfixed(&key, postfix)[..], b"=value\n"].concat();
-        if random.once_in(2) && file.len() + line.len() <= BOUND {
+        if random.once_in(2) && file.len() + line.len() <= FILE_BOUND {
             file.extend(line);
         }
     }

@@ -4,6 +4,7 @@
 pub mod actions;
 pub mod asker;
 pub mod batches;
+pub mod bounds;
 pub mod calls;
 pub mod case;
 pub mod edits;

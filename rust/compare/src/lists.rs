@@ -4,6 +4,7 @@
 use reference::{RecordKind, State};
 
 use crate::batches;
+use crate::bounds::{FILE_BOUND, JOURNAL_BOUND};
 use crate::case::Case;
 use crate::edits::{Call, Kind, List};
 use crate::files;
@@ -12,10 +13,6 @@ use crate::persons::Question;
 use crate::pieces::{self, BORDERS};
 use crate::random::Random;
 use crate::singles::{call, person, single};
-
-/// "A file is at most 32,768 bytes", and a journal uses at most 65,536.
-const FILE_BOUND: usize = 32_768;
-const JOURNAL_BOUND: usize = 65_536;
 
 /// A file in a buffer with little room or enough, and a journal for none, a few or many records.
 fn roomy(file: &[u8], random: &mut Random) -> State {

@@ -3,8 +3,9 @@
 
 use reference::State;
 
+use crate::bounds::{JOURNAL_BOUND, LIST_BOUND};
 use crate::journals;
-use crate::requests::{ends, fills_by_4_bytes, first_record, BOUND};
+use crate::requests::{ends, fills_by_4_bytes, first_record};
 
 /// What is wrong with the numbers of a journal, or with its records.
 enum Wrong {
@@ -26,7 +27,7 @@ impl Wrong {
         if used > state.journal.len() as u64 {
             return Some(Wrong::UsedOverRoom);
         }
-        if used > kveldrim::JOURNAL_BOUND as u64 {
+        if used > JOURNAL_BOUND as u64 {
             return Some(Wrong::UsedOverBound);
         }
         if standing > used {
@@ -85,7 +86,7 @@ pub(crate) fn fault_of(state: &State, list: &[u8]) -> Option<&'static str> {
 
 /// The name of a list's first fault.
 fn list_fault(list: &[u8]) -> Option<&'static str> {
-    if list.len() > BOUND {
+    if list.len() > LIST_BOUND {
         return Some("batch, list over the bound");
     }
     let mut rest = list;

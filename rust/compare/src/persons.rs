@@ -4,6 +4,7 @@ use kveldrim::{ffi, Buffers, Person};
 use reference::Refusal;
 
 use crate::asker::{bound, named, Asker};
+use crate::bounds::JOURNAL_BOUND;
 use crate::journals;
 use crate::lent::Numbers;
 
@@ -46,7 +47,7 @@ pub fn proved(given: &Given) -> u32 {
 impl Given {
     /// Whether the numbers fit the journal's room and its bound; if not, the call refuses with 14.
     pub fn lengths_fit(&self) -> bool {
-        let most = self.journal.1.min(kveldrim::JOURNAL_BOUND) as u64;
+        let most = self.journal.1.min(JOURNAL_BOUND) as u64;
         self.standing <= self.used && self.used <= most
     }
 

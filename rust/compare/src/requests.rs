@@ -1,8 +1,5 @@
 //! The list of a batch as bytes: its records and their fields.
 
-/// "A list over 65,536 bytes ... is damaged."
-pub const BOUND: usize = 65_536;
-
 /// A record of a list with these fields, each behind its length.
 pub fn record(kind: u16, fields: &[&[u8]]) -> Vec<u8> {
     let four = |length: usize| (length as u32).to_le_bytes();

@@ -2,6 +2,7 @@
 
 use compare::asker::Asker;
 use compare::batches;
+use compare::bounds::LIST_BOUND;
 use compare::case::Case;
 use compare::edits::{proved, Call, Given};
 use compare::random::Random;
@@ -160,7 +161,7 @@ fn unbounded(list: &[u8], read: impl Fn(&[u8]) -> Option<Request>) -> Option<Vec
 
 /// The requests of a list that is not too long, each record read so.
 fn by_records(list: &[u8], read: impl Fn(&[u8]) -> Option<Request>) -> Option<Vec<Request>> {
-    match list.len() <= requests::BOUND {
+    match list.len() <= LIST_BOUND {
         true => unbounded(list, read),
         false => None,
     }
@@ -338,7 +339,7 @@ fn a_list_that_is_read_wrongly() {
         ),
         ("read where it is done", |state, person, list| {
             let empty = reference::batch(state, person, b"");
-            if empty.stopped.is_some() || list.len() > requests::BOUND {
+            if empty.stopped.is_some() || list.len() > LIST_BOUND {
                 return reference::batch(state, person, list);
             }
             let starts = journals::records(list);
