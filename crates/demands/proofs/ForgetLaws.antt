@@ -10,12 +10,11 @@ use lib.Seq.{length-take-le}
 use lib.Dec.{leb}
 use borrow.Author.Tests.{leb-true, leb-false}
 use Rattle.base.proofs.Tests.{no, by-test}
-use Rattle.fault.specs.declared.Fault.the-variants.{Damaged, NoRoom, NothingLeft}
+use Rattle.fault.specs.declared.Fault.the-variants.{Damaged, NothingLeft}
 use Rattle.fault.specs.Answer.{Answer, given, refused, _>>=_, need, some-or, then, atExit}
 use Rattle.fault.proofs.Answers.{need-given}
 use Rattle.wellformed.specs.Check.{check}
-use Rattle.wellformed.specs.WellFormed.{wellFormed}
-use Rattle.splice.specs.Edit.{Edit, spliced, turned, stands, bufferWith}
+use Rattle.splice.specs.Edit.{Edit, turned}
 use Rattle.journal.specs.Journal.{Authored, personOf, editLength, lengths, Journal, oldest, newer, inOrder, nextOf}
 use Rattle.journal.specs.Lent as alone
 use Rattle.journal.specs.Lent.{Lent, usedOf, numbersFit, journalIn, without, forget}

@@ -11,12 +11,11 @@ use lib.Dec.{eqb, leb}
 use borrow.Author.Tests.{leb-true, leb-false, le-leb}
 use Rattle.base.specs.Lists.{all}
 use Rattle.base.proofs.Tests.{no, by-test, and-both}
-use Rattle.fault.specs.declared.Fault.the-variants.{Damaged, NoRoom, NothingLeft, JournalFull}
+use Rattle.fault.specs.declared.Fault.the-variants.{NoRoom, NothingLeft, JournalFull}
 use Rattle.fault.specs.Answer.{Answer, given, refused, _>>=_, need, some-or, then, atExit}
-use Rattle.fault.proofs.Answers.{need-given, bind-given, some-given, given-is}
+use Rattle.fault.proofs.Answers.{bind-given, some-given, given-is}
 use Rattle.record.specs.Record.{bodiesOf, readList}
-use Rattle.wellformed.specs.WellFormed.{wellFormed}
-use Rattle.splice.specs.Edit.{Edit, spliced, turned, stands, bufferWith}
+use Rattle.splice.specs.Edit.{Edit, spliced, turned}
 use Rattle.change.specs.Change.{Request, editOf}
 use Rattle.journal.specs.Journal.{Authored, by, personOf, kindOf, editRecord, editLength, lengths, Journal, inOrder, nextOf}
 use Rattle.journal.specs.Lent.{Lent, lent, usedOf, personIn, person}

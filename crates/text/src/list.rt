@@ -7,7 +7,7 @@ use crate::escape;
 ghost use mathlib.Core.Path.{_≡_};
 ghost use mathlib.Core.Bool.{true, false};
 ghost use Prim.Native.Nat.{_+_, _≤_};
-ghost use lib.ListN.{length, drop};
+ghost use lib.ListN.{length};
 ghost use Rattle.base.specs.Over.{over, atFront};
 ghost use Rattle.fault.specs.Answer.{accepted, then};
 ghost use Rattle.record.specs.Record.{recordLength, recordBytes, listOf};
