@@ -1,4 +1,6 @@
 // How an answer is told to a C program.
+#![tactic(auto)]
+
 ghost use Rattle.std.specs.Prelude.{◌≡◌, ℕ, List};
 ghost use Rattle.fault.specs.Table.{number_of, place_of, byte_of};
 ghost use Rattle.wellformed.specs.Check as check;

@@ -1,4 +1,6 @@
 // The actions of an application: those that are listed, with their labels, and the expansion of an action's own Exec.
+#![tactic(auto)]
+
 mod labels; // labels.rt: the records of identifiers and labels
 mod listed; // listed.rt: which actions are listed
 

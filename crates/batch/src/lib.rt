@@ -1,4 +1,6 @@
 // Many set and remove requests in one call.
+#![tactic(auto)]
+
 ghost use Rattle.std.specs.Prelude.{◌≡◌, true};
 ghost use Rattle.base.specs.Choice.{there};
 ghost use Rattle.fault.specs.Answer.{given};

@@ -1,4 +1,6 @@
 // What a set or a remove changes in a file, and the new bytes.
+#![tactic(auto)]
+
 ghost use Rattle.std.specs.Prelude.{◌≡◌, true, false, ◌&&◌, ◌||◌, ℕ, ◌+◌, ◌≤◌, min, List, length, ltb};
 ghost use Rattle.base.specs.Bounds.{file_most};
 ghost use Rattle.base.specs.Over.{WroteAt};
@@ -28,7 +30,7 @@ pub enum Operation {
 }
 
 // What changes.
-#[derive(Drop)]
+#[derive(Clone, Copy)]
 pub enum Target {
     // The value between two places is replaced.
     Value { from: usize, to: usize },
@@ -105,7 +107,7 @@ fn behind(file: &[u8], end: usize) -> Slot
 
 // The place behind the group's last entry, or its header.
 fn group_end(file: &[u8], group: &[u8]) -> Slot
-    ensures* { λ r. ⌜ r ≡ target.slot_of (last (λ r. spec.of_group group.now (title.title r)) (read_rows file.now)) ⌝ }
+    ensures { result ≡ target.slot_of (last (λ r. spec.of_group group.now (title.title r)) (read_rows file.now)) }
 {
     let mut p: usize = 0;
     let mut inside = rows::same(group, b"");

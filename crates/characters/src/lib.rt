@@ -1,9 +1,11 @@
 // Which bytes may stand where, and UTF-8.
+#![tactic(auto)]
+
 pub mod classes; // classes.rt: classes of bytes
 pub mod utf8; // utf8.rt: UTF-8
 
 // A class of bytes. A locale's part is made of the bytes of a key.
-#[derive(Drop)]
+#[derive(Clone, Copy)]
 pub enum Class {
     Key,
     Group,
@@ -12,7 +14,7 @@ pub enum Class {
 }
 
 // Which ASCII bytes stand beside the others: those of a value, or those of text to set.
-#[derive(Drop)]
+#[derive(Clone, Copy)]
 pub enum Content {
     Value,
     Text,

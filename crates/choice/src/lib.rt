@@ -1,5 +1,7 @@
 // Choice of language: the row of a key that a locale takes, in one pass over the file. A key's rank is its place among those that a locale asks for, the
 // best first: 0 lang_COUNTRY@MODIFIER, 1 lang_COUNTRY, 2 lang@MODIFIER, 3 lang, 4 the plain key; 5: it is none of them. Encodings do not count.
+#![tactic(auto)]
+
 ghost use Rattle.std.specs.Prelude.{◌≡◌, true, [], ◌∷◌, length, take};
 ghost use Rattle.base.specs.Lists as lists;
 ghost use Rattle.characters.specs.Class.{key_byte};

@@ -1,4 +1,6 @@
 // The command in an unescaped Exec: its words, its arguments and their pieces, and the lowest place of a fault.
+#![tactic(auto)]
+
 mod codes; // codes.rt: bytes and field codes
 pub mod words; // words.rt: words
 

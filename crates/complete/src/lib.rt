@@ -1,4 +1,6 @@
 // Completeness: which of the keys that an entry must have is missing or wrong.
+#![tactic(auto)]
+
 ghost use Rattle.std.specs.Prelude.{◌≡◌, true, ◌-◌, ◌≤◌, length};
 ghost use Rattle.base.specs.Lists.{same, part};
 ghost use Rattle.line.specs.Line.{read_line};

@@ -1,4 +1,6 @@
 // Set, remove, undo and redo on two lent buffers and three numbers.
+#![tactic(auto)]
+
 ghost use Rattle.std.specs.Prelude.{◌≡◌, true, ◌+◌, ◌-◌, ◌≤◌, length, take};
 ghost use Rattle.base.specs.Bounds.{file_most, journal_most};
 ghost use Rattle.base.specs.Lists.{part};

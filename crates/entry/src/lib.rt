@@ -1,4 +1,6 @@
 // The calls that read an entry: lookup, the choice of language, and completeness.
+#![tactic(auto)]
+
 ghost use Rattle.std.specs.Prelude.{◌≡◌, true};
 ghost use Rattle.line.specs.Form.{plain_form, locale_form};
 ghost use Rattle.rows.specs.Rows.{read_rows};

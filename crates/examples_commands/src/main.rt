@@ -1,4 +1,6 @@
 // Runs the examples of 01 on commands, and more at exact places, and reports each on a line of its own.
+#![tactic(auto)]
+
 mod commands; // commands.rt: the expansion of Exec
 mod submenus; // submenus.rt: the actions of an application
 

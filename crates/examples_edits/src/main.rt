@@ -1,4 +1,6 @@
 // Runs the examples of 01 on edits, and more at exact places, and reports each on a line of its own.
+#![tactic(auto)]
+
 mod edits; // edits.rt: set, with room in the journal and without; two in either order; who made an edit
 mod batches; // batches.rt: many requests in one call
 

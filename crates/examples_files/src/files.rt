@@ -24,7 +24,7 @@ fn check_long(file: &[u8]) {
 // File T and a comment: as long as a file may be, and one byte longer.
 fn check_bound(t: &[u8; 71]) {
     let mut file = [b'#'; 32769];
-    bytes::copy(t, &mut file);
+    base::copy(t, &mut file);
     check_long(&file[0..32768]);
     check_long(&file);
 }

@@ -1,4 +1,6 @@
 // Runs the examples of 01 on files, values and texts, and more at exact places, and reports each on a line of its own.
+#![tactic(auto)]
+
 mod files; // files.rt: the check and completeness
 mod values; // values.rt: lookup and the choice of language
 mod texts; // texts.rt: text and value lists

@@ -1,4 +1,6 @@
 // The expansion of Exec: what it is asked, the texts that it reads, and its runs.
+#![tactic(auto)]
+
 mod asked; // asked.rt: the list and the location
 mod texts; // texts.rt: Exec, Name and Icon
 

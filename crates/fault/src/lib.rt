@@ -1,8 +1,10 @@
 // The refusals of 01's table, each with its place. The variants stand in the order of their numbers.
+#![tactic(auto)]
+
 ghost use Rattle.std.specs.Prelude.{◌≡◌};
 ghost use Rattle.fault.specs.Table.{number_of, place_of, byte_of};
 
-#[derive(Drop)]
+#[derive(Clone, Copy)]
 pub enum Fault {
     // A file over 32,768 bytes.
     TooLong,

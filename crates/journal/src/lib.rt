@@ -1,4 +1,6 @@
 // The journal of edits, who made them, and forgetting the oldest.
+#![tactic(auto)]
+
 ghost use Rattle.std.specs.Prelude.{◌≡◌, true, ◌++◌, ◌+◌, ◌≤◌, length, drop};
 ghost use Rattle.base.specs.Choice.{there};
 ghost use Rattle.base.specs.Over.{over};
@@ -14,7 +16,7 @@ use fault::Fault;
 use record::{Bounds, Front};
 
 // Which way through the journal: back by the latest edit that stands, or forth by the next that waits.
-#[derive(Drop)]
+#[derive(Clone, Copy)]
 pub enum Way {
     Undo,
     Redo,

@@ -1,4 +1,6 @@
 // The C interface: one exported function for each public call. include/kveldrim.h documents it.
+#![tactic(auto)]
+
 mod edits; // edits.rt: the calls that edit
 
 ghost use Rattle.std.specs.Prelude.{◌≡◌};

@@ -1,4 +1,6 @@
 // A line's reading, the names in it, and the forms of group, key and locale arguments.
+#![tactic(auto)]
+
 pub mod form; // form.rt: the forms of arguments
 
 ghost use Rattle.std.specs.Prelude.{◌≡◌, ◌+◌, ◌<◌, length, drop};
@@ -9,7 +11,7 @@ ghost use Rattle.line.specs.Line as spec;
 use characters::{Class, Scan};
 
 // What a line is. Bounds count from the line's start.
-#[derive(Drop)]
+#[derive(Clone, Copy)]
 pub enum Line {
     Blank,
     Comment,
@@ -35,7 +37,7 @@ pub enum Named {
 }
 
 // The lengths of a locale's parts, each but the first with its mark; 0 for a part that is not there.
-#[derive(Drop)]
+#[derive(Clone, Copy)]
 pub struct Parts {
     pub lang: usize,
     pub country: usize,

@@ -1,4 +1,6 @@
 // A table of marks for names, in words of 64 bits: a name without its mark was surely not marked.
+#![tactic(auto)]
+
 ghost use Rattle.std.specs.Prelude.{◌≡◌, ◌&&◌, ◌+◌, ◌-◌, ◌%◌, ◌≤◌, ◌<◌, length, get_or};
 ghost use Rattle.marks.specs.Marks as spec;
 

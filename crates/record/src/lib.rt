@@ -1,4 +1,6 @@
 // Records in lent bytes, of any kind: read, counted, found and written.
+#![tactic(auto)]
+
 ghost use Rattle.std.specs.Prelude.{◌≡◌, true, ◌+◌, ◌≤◌, ◌<◌, length, take, drop};
 ghost use Rattle.base.specs.Choice.{there};
 ghost use Rattle.base.specs.Over.{over, at_front};
@@ -165,6 +167,6 @@ pub fn put(out: &mut [u8], at: usize, kind: u16, body: &[u8]) -> usize
 {
     put_head(&mut out[at..], 6 + body.len(), kind);
     let from = at + 6;
-    bytes::copy(body, &mut out[from..]);
+    base::copy(body, &mut out[from..]);
     from + body.len()
 }

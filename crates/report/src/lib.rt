@@ -1,4 +1,6 @@
 // The words in which the examples report, on standard output.
+#![tactic(auto)]
+
 ghost use Rattle.std.specs.Prelude.{◌<◌};
 
 use batch::Batched;

@@ -1,4 +1,6 @@
 // Requests in lent records: their fields, and whether a list is filled by them.
+#![tactic(auto)]
+
 ghost use Rattle.std.specs.Prelude.{◌≡◌, ◌≤◌, length};
 ghost use Rattle.base.specs.Choice.{there};
 ghost use Rattle.requests.specs.Requests.{read_request, read_requests};

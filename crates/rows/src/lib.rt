@@ -1,4 +1,6 @@
 // The rows of a file: where a line ends, and which row has a name.
+#![tactic(auto)]
+
 ghost use Rattle.std.specs.Prelude.{◌≡◌, true, false, ◌++◌, ◌+◌, ◌≤◌, ◌<◌, length, take, drop};
 ghost use Rattle.base.specs.Lists as lists;
 ghost use Rattle.line.specs.Name.{read_name};

@@ -1,4 +1,6 @@
 // A run of a command: its arguments as records in a lent output.
+#![tactic(auto)]
+
 mod measure; // measure.rt: how much room the records take
 mod write; // write.rt: the records
 

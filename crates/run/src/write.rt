@@ -18,10 +18,10 @@ fn put_piece(out: &mut [u8], p: Piece, item: &[u8], name: &[u8], location: &[u8]
     ensures { spec.Wrote out.old (run.piece_bytes (spec.put_of item.now name.now location.now) p) result out.new }
 {
     match p {
-        Piece::Byte(b) => bytes::copy(&[b], out),
-        Piece::Item => bytes::copy(item, out),
-        Piece::Name => bytes::copy(name, out),
-        Piece::Location => bytes::copy(location, out),
+        Piece::Byte(b) => base::copy(&[b], out),
+        Piece::Item => base::copy(item, out),
+        Piece::Name => base::copy(name, out),
+        Piece::Location => base::copy(location, out),
         Piece::Vanished => 0,
     }
 }

@@ -1,4 +1,6 @@
 // Edits of lent bytes, in place.
+#![tactic(auto)]
+
 ghost use Rattle.std.specs.Prelude.{◌≡◌, ◌+◌, ◌-◌, ◌≤◌, length, take, drop, replicate};
 ghost use Rattle.base.specs.Over.{over, WroteAt};
 ghost use Rattle.splice.specs.Edit.{replaced, stands_at, buffer_with};
@@ -28,7 +30,7 @@ pub fn write(buffer: &mut [u8], place: usize, new: &[u8]) -> usize
     requires { place + length new.now ≤ length buffer.old }
     ensures { WroteAt buffer.old place new.now result buffer.new }
 {
-    bytes::copy(new, &mut buffer[place..]);
+    base::copy(new, &mut buffer[place..]);
     place + new.len()
 }
 

@@ -1,4 +1,6 @@
 // Text in raw values: escapes and value lists.
+#![tactic(auto)]
+
 pub mod escape; // escape.rt: text from raw bytes and back
 pub mod list; // list.rt: the elements of a value list
 
@@ -12,7 +14,7 @@ use characters::{Content, Scan, utf8};
 use fault::Fault;
 
 // Which escapes are known: those of text, or those of a list's element.
-#[derive(Drop)]
+#[derive(Clone, Copy)]
 pub enum Escapes {
     Text,
     List,

@@ -1,4 +1,6 @@
 // The check: whether a file is well formed, or which of the faults 1 to 6 comes first.
+#![tactic(auto)]
+
 ghost use Rattle.std.specs.Prelude.{◌≡◌, true, false, ◌<◌, ◌≤◌, length, take, eqb};
 ghost use Rattle.base.specs.Lists.{same};
 ghost use Rattle.fault.specs.Answer.{need};
@@ -33,7 +35,7 @@ enum Scanned {
 }
 
 // A part of the file.
-#[derive(Drop)]
+#[derive(Clone, Copy)]
 struct Part {
     from: usize,
     len: usize,
@@ -41,7 +43,7 @@ struct Part {
 
 // What a pass carries from row to row: the group's number, which is 0 before the first header, and its name; the plain key that was
 // read or found last; the plain key that is still to come; and whether a postfixed key stands in any other order. An empty part is none.
-#[derive(Drop)]
+#[derive(Clone, Copy)]
 struct State {
     tag: u64,
     group: Part,

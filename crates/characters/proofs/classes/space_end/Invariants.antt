@@ -1,0 +1,14 @@
+-- `classes::space_end` meets its contract: what is left to pass from `i` is the whole answer. Assumes nothing.
+use borrow.Author.Rules.{rules}
+use lib.ListN.{length}
+use borrow.Author.Tests.{eq-eqb, ne_eqb}
+use Prim.Native.Nat.{◌-◌}
+use Rattle.base.proofs.Span.{Spanning, span-start, span-goes, span-stops, span-ends}
+use Rattle.characters.specs.Class.{space_byte}
+use Rattle.characters.proofs.classes.space_end.Given as goal
+
+abbrev pub invariant-loop-i : goal.invariant-loop-i
+invariant-loop-i l = Spanning space_byte l.s l.from l.i
+
+abbrev pub decreases-loop-i : goal.decreases-loop-i
+decreases-loop-i l = length l.s - l.i

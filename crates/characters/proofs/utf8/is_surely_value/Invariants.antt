@@ -1,0 +1,19 @@
+-- `utf8::is_surely_value` meets its contract: plain bytes, and then bytes that may follow. Assumes nothing.
+use borrow.Author.Rules.{rules}
+use native.Mathlib.Omega.{arith}
+use mathlib.Core.Path.{◌≡◌, sym, ◌∙◌}
+use mathlib.Core.Option.{none}
+use Prim.Native.Nat.{◌-◌, ◌≤◌}
+use lib.ListN.{length, drop}
+use lib.Seq.{drop-drop}
+use Rattle.characters.specs.Class.{value_byte}
+use Rattle.characters.specs.Utf8.{text_fault}
+use Rattle.characters.specs.declared.Due.TheVariants.{Start}
+use Rattle.characters.proofs.Windows.{plain-front, plain-last}
+use Rattle.characters.proofs.utf8.is_surely_value.Given as goal
+
+abbrev pub invariant-loop-k : goal.invariant-loop-k
+invariant-loop-k l = (l.k ≤ length l.s) × (text_fault value_byte Start (drop l.k l.s) ≡ none → text_fault value_byte Start (drop l.from l.s) ≡ none)
+
+abbrev pub decreases-loop-k : goal.decreases-loop-k
+decreases-loop-k l = length l.s - l.k

@@ -1,0 +1,39 @@
+-- `record::count` meets its contract: the records from the place on, and those counted before it, make the answer. Assumes nothing.
+use native.Mathlib.Omega.{arith}
+use borrow.Author.Rules.{rules}
+use mathlib.Core.Path.{◌∙◌, sym}
+use Prim.Native.Nat.{◌-◌}
+use lib.ListN.{length}
+use Rattle.record.proofs.Place.{front-damaged, front-record}
+use Rattle.record.proofs.Bodies.{Counting, count_long, count-begin, count-damaged, count-other, count_next, count-done}
+use Rattle.record.proofs.count.Goals as goal
+
+pub returns-in_default : goal.returns-in_default
+returns-in_default c =
+    let t = c in
+    count-damaged t.loop-at.invariant t.loop-at-test.true (front-damaged _ _ (sym c.read.ensures ∙ c.in_default.is))
+
+pub returns-then-k-kind : goal.returns-then-k-kind
+returns-then-k-kind c =
+    let k = c in
+    count-other k.loop-at.invariant (front-record _ _ (sym k.read.ensures ∙ k.in-Record.is)) c.if-k-kind.true
+
+pub loop-at-smaller : goal.loop-at-smaller
+loop-at-smaller c =
+    let k = c in
+    let r = front-record _ _ (sym k.read.ensures ∙ k.in-Record.is) in
+    omega arith
+
+pub loop-at-preserved : goal.loop-at-preserved
+loop-at-preserved c =
+    let k = c in
+    count_next k.loop-at.invariant (front-record _ _ (sym k.read.ensures ∙ k.in-Record.is)) c.if-k-kind.false
+
+-- ANON 2/13 other between start and returns-in_default, of returns-then-most-s loop-at-init enum_known-k enum_told-1
+-- | count_long _ _ _ c.if-most-s.true
+
+-- ANON 3/13 other between start and returns-in_default, of returns-then-most-s loop-at-init enum_known-k enum_told-1
+-- | count-begin _ _ _ c.if-most-s.false
+
+pub returns : goal.returns
+returns c = count-done c.loop-at.invariant c.loop-at-test.false

@@ -1,0 +1,36 @@
+-- `record::nth` meets its contract: the bodies left to pass, from the place on, lead to the one sought. Assumes nothing.
+use native.Mathlib.Omega.{arith}
+use borrow.Author.Rules.{rules}
+use mathlib.Core.Path.{◌∙◌, sym}
+use Prim.Native.Nat.{◌-◌}
+use lib.ListN.{length}
+use Rattle.record.proofs.Place.{front-damaged, front-record}
+use Rattle.record.proofs.Seek.{Seeking, seek-begin, seek-damaged, seek-here, seek-next, seek-done}
+use Rattle.record.proofs.nth.Goals as goal
+
+pub returns-in_default : goal.returns-in_default
+returns-in_default c =
+    let t = c in
+    seek-damaged t.loop-at.invariant t.loop-at-test.true (front-damaged _ _ (sym c.read.ensures ∙ c.in_default.is))
+
+pub returns-then-left-eq0 : goal.returns-then-left-eq0
+returns-then-left-eq0 c =
+    let k = c in
+    seek-here k.loop-at.invariant (front-record _ _ (sym k.read.ensures ∙ k.in-Record.is)) c.if-left-eq0.true
+
+pub loop-at-smaller : goal.loop-at-smaller
+loop-at-smaller c =
+    let k = c in
+    let r = front-record _ _ (sym k.read.ensures ∙ k.in-Record.is) in
+    omega arith
+
+pub loop-at-preserved : goal.loop-at-preserved
+loop-at-preserved c =
+    let k = c in
+    seek-next k.loop-at.invariant (front-record _ _ (sym k.read.ensures ∙ k.in-Record.is)) c.if-left-eq0.false
+
+-- ANON 2/13 other between start and returns-in_default, of loop-at-init enum_known-end enum_told-1
+-- | seek-begin _ c.requires
+
+pub returns : goal.returns
+returns c = seek-done c.loop-at.invariant c.loop-at-test.false

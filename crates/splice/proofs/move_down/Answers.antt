@@ -1,0 +1,20 @@
+-- `splice::move_down` meets its contract: what is still to be read lies past the copy. Assumes nothing.
+use mathlib.Core.Path.{refl}
+use Prim.Native.Nat.{◌-◌, ◌≤◌}
+use native.Mathlib.Omega.{arith}
+use borrow.Author.Rules.{rules}
+use lib.ListN.{drop, length-drop}
+use lib.Seq.{get_or-drop}
+use Rattle.splice.proofs.Move.{Copied, copy_begin, copy-next, copy-past, copy_done}
+use Rattle.splice.proofs.move_down.Goals as goal
+
+pub loop-i-preserved : goal.loop-i-preserved
+loop-i-preserved c =
+    let w = c.loop-i.invariant.1 in
+    (omega arith, copy-next w (rw get_or-drop (copy-past w _ (omega arith))) _ _ refl (omega arith) (omega arith) (simp length-drop (omega arith)))
+
+-- ANON 2/12 other between start and loop-i-preserved, of loop-i-init overflow_add-buffer bounds-buffer-from overflow_add-buffer-in-loop-i bounds-buffer-to overflow_add-i loop-i-smaller
+-- | (omega arith, copy_begin refl (omega arith))
+
+pub returns : goal.returns
+returns c = copy_done c.loop-i.invariant.1 c.loop-i-test.false (omega arith)
