@@ -24,10 +24,6 @@ module _ (s : List ℕ) (at : ℕ) (x : List ℕ) (h : at + length x ≤ length 
 
 -- ---- through a tail that was lent
 
--- x copied to the front
-pub copied : (s x : List ℕ) {y : List ℕ} → y ≡ take (length x) x ++ drop (length x) s → y ≡ at_front s x
-copied s x e = e ∙ rw take-length
-
 -- x written at the front of the tail, and the tail back
 pub over-tail : (s : List ℕ) (at : ℕ) (x : List ℕ) {y : List ℕ} → y ≡ at_front (lent at s) x → back at s y ≡ over s at x
 over-tail s at x {y} e = tail-back at s y ∙ rw (e, tail-lent at s, drop-drop)
@@ -60,5 +56,5 @@ pub write-lent : (s : List ℕ) (at : ℕ) (x : List ℕ) {n : ℕ} {y : List �
 write-lent s at x e f = record { ends = ap (λ (m : ℕ). at + m) e; is = over-tail s at x f }
 
 -- x copied to the front of a tail that was lent
-pub write-tail : (s x : List ℕ) (at : ℕ) {y : List ℕ} → y ≡ take (length x) x ++ drop (length x) (lent at s) → WroteAt s at x (at + length x) (back at s y)
-write-tail s x at e = write-lent s at x refl (copied (lent at s) x e)
+pub write-tail : (s x : List ℕ) (at : ℕ) {y : List ℕ} → y ≡ at_front (lent at s) x → WroteAt s at x (at + length x) (back at s y)
+write-tail s x at e = write-lent s at x refl e

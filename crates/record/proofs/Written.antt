@@ -6,7 +6,7 @@ use native.Mathlib.Omega.{arith}
 use lib.ListN.{length, take, drop}
 use Rattle.base.specs.Over.{over, at_front}
 use Rattle.base.proofs.Tail.{lent, back}
-use Rattle.base.proofs.Over.{copied, over-tail, over-then, over-before}
+use Rattle.base.proofs.Over.{over-tail, over-then, over-before}
 use Rattle.record.specs.Number.{little_endian}
 use Rattle.record.specs.Record.{Rec, head_bytes, record_length, record_bytes}
 use Rattle.record.proofs.Sizes.{length-head}
@@ -21,13 +21,13 @@ head-written out P Y size kind h p y =
 -- a head written at the front of a tail, and then a body copied to the front of the tail behind it
 pub record-written : (out Y Z : List ℕ) (at : ℕ) (r : Rec) → at + record_length r.body ≤ length out
     → Y ≡ at_front (lent at out) (head_bytes (record_length r.body) r.kind)
-    → Z ≡ take (length r.body) r.body ++ drop (length r.body) (lent (at + 6) (back at out Y))
+    → Z ≡ at_front (lent (at + 6) (back at out Y)) r.body
     → back (at + 6) (back at out Y) Z ≡ over out at (record_bytes r)
 unfolding record_bytes
 record-written out Y Z at r h y z =
     let head = head_bytes (record_length r.body) r.kind in
     let l = length-head (record_length r.body) r.kind in
-    over-tail (back at out Y) (at + 6) r.body (copied _ r.body z)
+    over-tail (back at out Y) (at + 6) r.body z
     ∙ rw (over-tail out at head y) (over-then out at head r.body {n = at + 6} (omega arith) (omega arith))
 
 -- a body written to the front of a tail, and then the head to the front of the tail that starts six bytes before it

@@ -14,7 +14,7 @@ use Rattle.base.specs.Bounds.{list_most}
 use Rattle.base.specs.Choice.{maybe, there}
 use Rattle.base.specs.Lists.{ascii, part}
 use Rattle.base.specs.Over.{over, at_front}
-use Rattle.base.proofs.Over.{copied, over-tail}
+use Rattle.base.proofs.Over.{over-tail}
 use Rattle.base.proofs.Tail.{lent, back}
 use Rattle.base.proofs.Lists.{length_part}
 use Rattle.base.proofs.Tests.{no, by-test}
@@ -35,8 +35,8 @@ pub wrote_none : (s : List ℕ) → Wrote s [] 0 s
 wrote_none s = record { long = refl; is = refl }
 
 -- x copied
-pub wrote-copy : {s : List ℕ} (x : List ℕ) {n : ℕ} {t : List ℕ} → (n ≡ length x) × (t ≡ take (length x) x ++ drop (length x) s) → Wrote s x n t
-wrote-copy {s} x p = record { long = p.0; is = copied s x p.1 }
+pub wrote-copy : {s : List ℕ} (x : List ℕ) {n : ℕ} {t : List ℕ} → n ≡ length x → t ≡ at_front s x → Wrote s x n t
+wrote-copy {s} x e f = record { long = e; is = f }
 
 -- y written behind x, through the tail that starts there
 pub wrote_then : {s x t y u : List ℕ} {n m : ℕ} → Wrote s x n t → Wrote (lent n t) y m u → Wrote s (x ++ y) (n + m) (back n t u)

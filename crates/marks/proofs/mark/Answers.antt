@@ -6,5 +6,5 @@ use Rattle.marks.proofs.mark.Goals as goal
 pub returns : goal.returns
 returns c =
     let a = c.args in
-    marked_by a.marks-1.now a.tag a.x.now c.hash.ensures c.numbered-h.ensures c.rehash-g.ensures
+    marked_by a.marks.now a.tag a.x.now c.hash.ensures c.numbered-h.ensures c.rehash-g.ensures
     c.both-there.ensures c.set.ensures c.set-2.ensures

@@ -29,11 +29,11 @@ loop-at-preserved c =
     let k = c in
     count_next k.loop-at.invariant (front-record _ _ (sym k.read.ensures ∙ k.in-Record.is)) c.if-k-kind.false
 
--- ANON 2/13 other between start and returns-in_default, of returns-then-most-s loop-at-init enum_known-k enum_told-1
--- | count_long _ _ _ c.if-most-s.true
+pub returns-then-most-s : goal.returns-then-most-s
+returns-then-most-s c = count_long _ _ _ c.if-most-s.true
 
--- ANON 3/13 other between start and returns-in_default, of returns-then-most-s loop-at-init enum_known-k enum_told-1
--- | count-begin _ _ _ c.if-most-s.false
+pub loop-at-init : goal.loop-at-init
+loop-at-init c = count-begin _ _ _ c.if-most-s.false
 
 pub returns : goal.returns
 returns c = count-done c.loop-at.invariant c.loop-at-test.false

@@ -29,8 +29,8 @@ loop-at-preserved c =
     let k = c in
     seek-next k.loop-at.invariant (front-record _ _ (sym k.read.ensures ∙ k.in-Record.is)) c.if-left-eq0.false
 
--- ANON 2/13 other between start and returns-in_default, of loop-at-init enum_known-end enum_told-1
--- | seek-begin _ c.requires
+pub loop-at-init : goal.loop-at-init
+loop-at-init c = seek-begin _ c.requires
 
 pub returns : goal.returns
 returns c = seek-done c.loop-at.invariant c.loop-at-test.false

@@ -12,34 +12,34 @@ returns c =
     let s = h in
     let a = s.args in
     let r : Rec = record { kind = a.kind; body = a.body.now } in
-    (omega arith, record-written a.out-1.now h.put_head.new.0 p.copy.new.1.0 a.at r s.requires h.put_head.ensures p.copy.ensures.1)
+    (omega arith, record-written a.out.now h.put_head.new.out p.copy.new.to a.at r s.requires h.put_head.ensures p.copy.ensures.is)
 
--- ANON 0/13 other between start and returns, of slice_bounds-put_head-count slice_bounds-put_head-start slice_bounds-put_head-end overflow_add-body overflow_add-from slice_bounds-copy-count slice_bounds-copy-start slice_bounds-copy-end overflow_add-result shape_of-out
--- | omega arith
+pub slice_bounds-put_head-count : goal.slice_bounds-put_head-count
+slice_bounds-put_head-count c = omega arith
 
--- ANON 1/13 other between start and returns, of slice_bounds-put_head-count slice_bounds-put_head-start slice_bounds-put_head-end overflow_add-body overflow_add-from slice_bounds-copy-count slice_bounds-copy-start slice_bounds-copy-end overflow_add-result shape_of-out
--- | omega arith
+pub slice_bounds-put_head-start : goal.slice_bounds-put_head-start
+slice_bounds-put_head-start c = omega arith
 
--- ANON 2/13 other between start and returns, of slice_bounds-put_head-count slice_bounds-put_head-start slice_bounds-put_head-end overflow_add-body overflow_add-from slice_bounds-copy-count slice_bounds-copy-start slice_bounds-copy-end overflow_add-result shape_of-out
--- | omega arith
+pub slice_bounds-put_head-end : goal.slice_bounds-put_head-end
+slice_bounds-put_head-end c = omega arith
 
--- ANON 3/13 other between start and returns, of slice_bounds-put_head-count slice_bounds-put_head-start slice_bounds-put_head-end overflow_add-body overflow_add-from slice_bounds-copy-count slice_bounds-copy-start slice_bounds-copy-end overflow_add-result shape_of-out
--- | omega arith
+pub overflow_add-body : goal.overflow_add-body
+overflow_add-body c = omega arith
 
--- ANON 5/13 other between start and returns, of slice_bounds-put_head-count slice_bounds-put_head-start slice_bounds-put_head-end overflow_add-body overflow_add-from slice_bounds-copy-count slice_bounds-copy-start slice_bounds-copy-end overflow_add-result shape_of-out
--- | omega arith
+pub overflow_add-from : goal.overflow_add-from
+overflow_add-from c = omega arith
 
--- ANON 6/13 other between start and returns, of slice_bounds-put_head-count slice_bounds-put_head-start slice_bounds-put_head-end overflow_add-body overflow_add-from slice_bounds-copy-count slice_bounds-copy-start slice_bounds-copy-end overflow_add-result shape_of-out
--- | omega arith
+pub slice_bounds-copy-count : goal.slice_bounds-copy-count
+slice_bounds-copy-count c = omega arith
 
--- ANON 7/13 other between start and returns, of slice_bounds-put_head-count slice_bounds-put_head-start slice_bounds-put_head-end overflow_add-body overflow_add-from slice_bounds-copy-count slice_bounds-copy-start slice_bounds-copy-end overflow_add-result shape_of-out
--- | omega arith
+pub slice_bounds-copy-start : goal.slice_bounds-copy-start
+slice_bounds-copy-start c = omega arith
 
--- ANON 8/13 other between start and returns, of slice_bounds-put_head-count slice_bounds-put_head-start slice_bounds-put_head-end overflow_add-body overflow_add-from slice_bounds-copy-count slice_bounds-copy-start slice_bounds-copy-end overflow_add-result shape_of-out
--- | omega arith
+pub slice_bounds-copy-end : goal.slice_bounds-copy-end
+slice_bounds-copy-end c = omega arith
 
--- ANON 10/13 other between start and returns, of slice_bounds-put_head-count slice_bounds-put_head-start slice_bounds-put_head-end overflow_add-body overflow_add-from slice_bounds-copy-count slice_bounds-copy-start slice_bounds-copy-end overflow_add-result shape_of-out
--- | omega arith
+pub overflow_add-result : goal.overflow_add-result
+overflow_add-result c = omega arith
 
--- ANON 11/13 other between start and returns, of slice_bounds-put_head-count slice_bounds-put_head-start slice_bounds-put_head-end overflow_add-body overflow_add-from slice_bounds-copy-count slice_bounds-copy-start slice_bounds-copy-end overflow_add-result shape_of-out
--- | omega arith
+pub shape_of-out : goal.shape_of-out
+shape_of-out c = omega arith

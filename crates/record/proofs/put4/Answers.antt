@@ -10,8 +10,8 @@ pub returns : goal.returns
 unfolding little_endian
 returns c = sets-eq (little_endian 4 c.args.n) c.args.out.now 0 c.requires
 
--- ANON 3/10 other between start and returns, of overflow_cast-out bounds-out-0 overflow_cast-out-2 bounds-out-1 overflow_cast-out-3 bounds-out-2 overflow_cast-out-4 bounds-out-3 shape_of-out
--- | simp length-set (omega arith)
+pub bounds-out-1 : goal.bounds-out-1
+bounds-out-1 c = simp length-set (omega arith)
 
--- ANON 5/10 other between start and returns, of overflow_cast-out bounds-out-0 overflow_cast-out-2 bounds-out-1 overflow_cast-out-3 bounds-out-2 overflow_cast-out-4 bounds-out-3 shape_of-out
--- | simp length-set (omega arith)
+pub bounds-out-2 : goal.bounds-out-2
+bounds-out-2 c = simp length-set (omega arith)

@@ -7,4 +7,4 @@ pub returns : goal.returns
 returns c =
     let p = c in
     let a = p in
-    head-written a.args.out-1.now p.put4.new.0 _ a.args.size a.args.kind a.requires p.put4.ensures c.put2.ensures
+    head-written a.args.out.now p.put4.new.out _ a.args.size a.args.kind a.requires p.put4.ensures c.put2.ensures

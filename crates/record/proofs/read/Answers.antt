@@ -10,14 +10,14 @@ returns c =
     record-there _ _ (whole-if _ (simp length-drop (omega arith)) (omega arith) (simp length-drop (omega arith)))
     c.number2-kind.ensures (omega arith)
 
--- ANON 0/11 other between start and returns, of returns-then-s-at overflow_sub-s returns-then-s-at-lt6 returns-then-size-lt6 overflow_sub-s-2 returns-then-s-at-2 overflow_add-at overflow_add-result
--- | damaged-at _ _ (no-head _ (simp length-drop (omega arith)))
+pub returns-then-s-at : goal.returns-then-s-at
+returns-then-s-at c = damaged-at _ _ (no-head _ (simp length-drop (omega arith)))
 
--- ANON 2/11 other between start and returns, of returns-then-s-at overflow_sub-s returns-then-s-at-lt6 returns-then-size-lt6 overflow_sub-s-2 returns-then-s-at-2 overflow_add-at overflow_add-result
--- | damaged-at _ _ (no-head _ (simp length-drop (omega arith)))
+pub returns-then-s-at-lt6 : goal.returns-then-s-at-lt6
+returns-then-s-at-lt6 c = damaged-at _ _ (no-head _ (simp length-drop (omega arith)))
 
--- ANON 4/11 other between start and returns, of returns-then-s-at overflow_sub-s returns-then-s-at-lt6 returns-then-size-lt6 overflow_sub-s-2 returns-then-s-at-2 overflow_add-at overflow_add-result
--- | damaged-at _ _ (no_length _ (omega arith))
+pub returns-then-size-lt6 : goal.returns-then-size-lt6
+returns-then-size-lt6 c = damaged-at _ _ (no_length _ (omega arith))
 
--- ANON 6/11 other between start and returns, of returns-then-s-at overflow_sub-s returns-then-s-at-lt6 returns-then-size-lt6 overflow_sub-s-2 returns-then-s-at-2 overflow_add-at overflow_add-result
--- | damaged-at _ _ (no_bytes _ (simp length-drop (omega arith)))
+pub returns-then-s-at-2 : goal.returns-then-s-at-2
+returns-then-s-at-2 c = damaged-at _ _ (no_bytes _ (simp length-drop (omega arith)))

@@ -14,8 +14,8 @@ loop-i-preserved c =
     let h : l.i - a.from < a.to - a.from = omega arith in
     (omega arith, copy-next l.invariant.1 (sym (get_or-replicate _ _ _ _ h)) _ _ (omega arith) (omega arith) (omega arith) (simp length-replicate (omega arith)))
 
--- ANON 2/9 other between start and loop-i-preserved, of loop-i-init bounds-buffer-i overflow_add-i loop-i-smaller
--- | (omega arith, copy_begin (omega arith) (omega arith))
+pub loop-i-init : goal.loop-i-init
+loop-i-init c = (omega arith, copy_begin (omega arith) (omega arith))
 
 pub returns : goal.returns
 returns c = copy-whole c.loop-i.invariant.1 (simp length-replicate (omega arith))

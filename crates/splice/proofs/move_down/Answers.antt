@@ -13,8 +13,8 @@ loop-i-preserved c =
     let w = c.loop-i.invariant.1 in
     (omega arith, copy-next w (rw get_or-drop (copy-past w _ (omega arith))) _ _ refl (omega arith) (omega arith) (simp length-drop (omega arith)))
 
--- ANON 2/12 other between start and loop-i-preserved, of loop-i-init overflow_add-buffer bounds-buffer-from overflow_add-buffer-in-loop-i bounds-buffer-to overflow_add-i loop-i-smaller
--- | (omega arith, copy_begin refl (omega arith))
+pub loop-i-init : goal.loop-i-init
+loop-i-init c = (omega arith, copy_begin refl (omega arith))
 
 pub returns : goal.returns
 returns c = copy_done c.loop-i.invariant.1 c.loop-i-test.false (omega arith)

@@ -18,5 +18,5 @@ loop-i-preserved c =
 pub returns : goal.returns
 returns c = let e : c.loop-i.i ≡ 0 = omega arith in simp (e, add-zero, sub-zero) at c.loop-i.invariant.1.is
 
--- ANON 2/12 other between start and loop-i-preserved, of loop-i-init overflow_sub-i overflow_add-buffer bounds-buffer-from overflow_add-buffer-in-loop-i bounds-buffer-to loop-i-smaller
--- | (omega arith, copy_begin (omega arith) (omega arith))
+pub loop-i-init : goal.loop-i-init
+loop-i-init c = (omega arith, copy_begin (omega arith) (omega arith))

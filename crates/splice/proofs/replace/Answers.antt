@@ -8,4 +8,4 @@ use Rattle.splice.proofs.replace.Goals as goal
 pub returns : goal.returns
 returns c =
     let a = c.args in
-    cc (whole a.buffer-1.now a.new.now a.size a.place a.old (a.size - (a.place + a.old)) (omega arith) (omega arith) (omega arith))
+    cc (whole a.buffer.now a.new.now a.size a.place a.old (a.size - (a.place + a.old)) (omega arith) (omega arith) (omega arith))

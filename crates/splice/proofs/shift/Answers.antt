@@ -7,4 +7,4 @@ use Rattle.splice.proofs.shift.Goals as goal
 pub returns-else-to-from : goal.returns-else-to-from
 returns-else-to-from c =
     let a = c.args in
-    over-same a.buffer-1.now a.from a.to a.n (omega arith) (omega arith)
+    over-same a.buffer.now a.from a.to a.n (omega arith) (omega arith)

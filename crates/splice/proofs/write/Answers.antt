@@ -4,4 +4,4 @@ use Rattle.base.proofs.Over.{write-tail}
 use Rattle.splice.proofs.write.Goals as goal
 
 pub returns : goal.returns
-returns c = write-tail _ _ _ c.copy.ensures.1
+returns c = write-tail _ _ _ c.copy.ensures.is

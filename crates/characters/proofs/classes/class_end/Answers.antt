@@ -7,14 +7,14 @@ use Rattle.base.proofs.Span.{Spanning, span-start, span-goes, span-stops, span-e
 use Rattle.characters.specs.Class.{member}
 use Rattle.characters.proofs.classes.class_end.Goals as goal
 
--- ANON 2/10 other between start and end, of loop-i-init bounds-s-i overflow_add-i loop-i-smaller loop-i-preserved returns-else-is_in returns
--- | span-start
+pub loop-i-init : goal.loop-i-init
+loop-i-init c = span-start
 
--- ANON 7/10 other between start and end, of loop-i-init bounds-s-i overflow_add-i loop-i-smaller loop-i-preserved returns-else-is_in returns
--- | span-goes c.loop-i.invariant (search rules) (sym c.is_in.ensures ∙ c.if-is_in.true)
+pub loop-i-preserved : goal.loop-i-preserved
+loop-i-preserved c = span-goes c.loop-i.invariant (search rules) (sym c.is_in.ensures ∙ c.if-is_in.true)
 
--- ANON 8/10 other between start and end, of loop-i-init bounds-s-i overflow_add-i loop-i-smaller loop-i-preserved returns-else-is_in returns
--- | span-stops c.loop-i.invariant (search rules) (sym c.is_in.ensures ∙ c.if-is_in.false)
+pub returns-else-is_in : goal.returns-else-is_in
+returns-else-is_in c = span-stops c.loop-i.invariant (search rules) (sym c.is_in.ensures ∙ c.if-is_in.false)
 
 pub returns : goal.returns
 returns c = span-ends c.loop-i.invariant (search rules)

@@ -23,11 +23,11 @@ pub returns : goal.returns
 unfolding span
 returns c = omega (arith, rw (done c.args.s.now c.loop-i.i c.loop-i-test.false) at c.loop-i.invariant)
 
--- ANON 2/13 other between start and loop-i-preserved, of loop-i-init overflow_sub-s returns-then-s-i-lt16 overflow_add-i loop-i-smaller
--- | refl
+pub loop-i-init : goal.loop-i-init
+loop-i-init c = refl
 
--- ANON 5/13 other between start and loop-i-preserved, of loop-i-init overflow_sub-s returns-then-s-i-lt16 overflow_add-i loop-i-smaller
--- | c.short_end.ensures ∙ c.loop-i.invariant
+pub returns-then-s-i-lt16 : goal.returns-then-s-i-lt16
+returns-then-s-i-lt16 c = c.short_end.ensures ∙ c.loop-i.invariant
 
 pub returns-else-plain_16 : goal.returns-else-plain_16
 returns-else-plain_16 c = c.value_end.ensures ∙ c.loop-i.invariant

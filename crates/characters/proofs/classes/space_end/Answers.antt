@@ -7,14 +7,14 @@ use Rattle.base.proofs.Span.{Spanning, span-start, span-goes, span-stops, span-e
 use Rattle.characters.specs.Class.{space_byte}
 use Rattle.characters.proofs.classes.space_end.Goals as goal
 
--- ANON 2/9 other between start and end, of loop-i-init bounds-s-i overflow_add-i loop-i-smaller loop-i-preserved returns-else-s-i-eq32 returns
--- | span-start
+pub loop-i-init : goal.loop-i-init
+loop-i-init c = span-start
 
--- ANON 6/9 other between start and end, of loop-i-init bounds-s-i overflow_add-i loop-i-smaller loop-i-preserved returns-else-s-i-eq32 returns
--- | span-goes c.loop-i.invariant (search rules) (eq-eqb _ _ c.if-s-i-eq32.true)
+pub loop-i-preserved : goal.loop-i-preserved
+loop-i-preserved c = span-goes c.loop-i.invariant (search rules) (eq-eqb _ _ c.if-s-i-eq32.true)
 
--- ANON 7/9 other between start and end, of loop-i-init bounds-s-i overflow_add-i loop-i-smaller loop-i-preserved returns-else-s-i-eq32 returns
--- | span-stops c.loop-i.invariant (search rules) (ne_eqb _ _ c.if-s-i-eq32.false)
+pub returns-else-s-i-eq32 : goal.returns-else-s-i-eq32
+returns-else-s-i-eq32 c = span-stops c.loop-i.invariant (search rules) (ne_eqb _ _ c.if-s-i-eq32.false)
 
 pub returns : goal.returns
 returns c = span-ends c.loop-i.invariant (search rules)

@@ -27,5 +27,5 @@ returns c =
     let l = c in
     sym (rest-none c.args.s.now l.loop-i.i l.loop-i.m l.loop-i.lo l.loop-i.hi (search rules)) ∙ l.loop-i.invariant
 
--- ANON 2/13 other between start and returns-then-m-eq0, of loop-i-init bounds-s-i overflow_add-result
--- | refl
+pub loop-i-init : goal.loop-i-init
+loop-i-init c = refl

@@ -1,6 +1,5 @@
-use borrow.Author.Rules.{rules}
-
 -- `utf8::sound_16` meets its contract: the bytes asked so far may follow. Assumes nothing.
+use borrow.Author.Rules.{rules}
 use native.Mathlib.Omega.{arith}
 use mathlib.Core.Path.{◌≡◌, sym, ◌∙◌}
 use mathlib.Core.Bool.{true}
@@ -8,8 +7,7 @@ use Prim.Native.Nat.{◌+◌, ◌-◌, ◌≤◌}
 use Rattle.base.proofs.Tests.{and_both}
 use Rattle.characters.specs.Window.{FollowedTo}
 use Rattle.characters.proofs.Windows.{followed-none, followed-more}
-use Rattle.characters.proofs.utf8.sound_16.Statement.{statement}
-use Rattle.characters.proofs.utf8.sound_16.Tie as tie
+use Rattle.characters.proofs.utf8.sound_16.Goals as goal
 
 pub loop-j-init : goal.loop-j-init
 loop-j-init c = let a = c.args in (omega arith, λ e. followed-none a.s.now a.i (a.i + 0) (omega arith))

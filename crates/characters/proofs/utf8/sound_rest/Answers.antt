@@ -1,6 +1,5 @@
-use borrow.Author.Rules.{rules}
-
 -- `utf8::sound_rest` meets its contract: the bytes asked so far may follow. Assumes nothing.
+use borrow.Author.Rules.{rules}
 use native.Mathlib.Omega.{arith}
 use mathlib.Core.Path.{◌≡◌, refl, sym, ◌∙◌}
 use mathlib.Core.Bool.{true, false, false≢true}
@@ -8,8 +7,7 @@ use Prim.Native.Nat.{◌+◌, ◌-◌, ◌≤◌}
 use lib.ListN.{length}
 use Rattle.characters.specs.Window.{FollowedTo}
 use Rattle.characters.proofs.Windows.{followed-none, followed-join, not-true}
-use Rattle.characters.proofs.utf8.sound_rest.Statement.{statement}
-use Rattle.characters.proofs.utf8.sound_rest.Tie as tie
+use Rattle.characters.proofs.utf8.sound_rest.Goals as goal
 
 pub loop-k-init : goal.loop-k-init
 loop-k-init c = let a = c.args in (omega arith, omega arith, followed-none a.s.now a.at a.at refl)
