@@ -15,7 +15,7 @@ use Rattle.text.specs.Step.{text_of}
 
 -- what the caller is told and what the output holds
 abbrev pub Leaves : Answer (List ℕ) → List ℕ → Answer ℕ → List ℕ → Type 0
-Leaves a out r out' = (r ≡ written_length a out) × (out' ≡ held a out)
+Leaves a out r out' = record { answer : r ≡ written_length a out; output : out' ≡ held a out }
 
 -- an answer whose length is told is given
 pub given-length : (a : Answer (List ℕ)) (n : ℕ) → given n ≡ then length a → (accepted a ≡ true) × (n ≡ length (text_of a))
@@ -23,13 +23,13 @@ given-length (given s) n e = (refl, cc)
 given-length (refused f) n e = no (cc)
 
 pub leaves-refused : (a : Answer (List ℕ)) (f : Fault) (out : List ℕ) → a ≡ refused f → Leaves a out (refused f) out
-leaves-refused a f out e = rw e (refl, refl)
+leaves-refused a f out e = rw e (record { answer = refl; output = refl })
 
 pub leaves-full : (a : Answer (List ℕ)) (out : List ℕ) → accepted a ≡ true → length out < length (text_of a) → Leaves a out (refused NoRoom) out
-leaves-full (given s) out e h = rw (lt-leb (length s) (length out) h) (refl, refl)
+leaves-full (given s) out e h = rw (lt-leb (length s) (length out) h) (record { answer = refl; output = refl })
 leaves-full (refused f) out e h = absurd (false≢true e)
 
 pub leaves-written : (a : Answer (List ℕ)) (out : List ℕ) {out' : List ℕ} {n : ℕ} → accepted a ≡ true → length (text_of a) ≤ length out
     → (n ≡ length (text_of a)) × (out' ≡ at_front out (text_of a)) → Leaves a out (given n) out'
-leaves-written (given s) out e h w = rw (le-leb (length s) (length out) h) (ap given w.0, w.1)
+leaves-written (given s) out e h w = rw (le-leb (length s) (length out) h) (record { answer = ap given w.0; output = w.1 })
 leaves-written (refused f) out e h w = absurd (false≢true e)

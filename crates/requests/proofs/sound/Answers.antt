@@ -1,0 +1,61 @@
+-- `requests::sound` meets its contract: the records from the place on decide. Assumes nothing.
+use native.Mathlib.Omega.{arith}
+use borrow.Author.Rules.{rules}
+use mathlib.Core.Path.{◌∙◌, sym}
+use Prim.Native.Nat.{ℕ, ◌-◌}
+use mathlib.Core.List.{List}
+use lib.ListN.{length}
+use Rattle.record.proofs.Place.{Stands, front-damaged, front-record}
+use Rattle.requests.proofs.Judging.{Judging, judge-long, judge-begin, judge-damaged, judge-other, judge-next, judge-done}
+use Rattle.requests.proofs.sound.Goals as goal
+
+abbrev list_of : goal.In-Record invariant-loop decreases-loop → List ℕ
+list_of c = c.args.list.now
+
+abbrev at_of : goal.In-Record invariant-loop decreases-loop → ℕ
+at_of c = c.loop-at.at
+
+pub returns-in_default : goal.returns-in_default
+returns-in_default c =
+    let t = c in
+    judge-damaged t.loop-at.invariant t.loop-at-test.true (front-damaged _ _ (sym c.read.ensures ∙ c.in_default.is))
+
+-- the record that stands at the place
+stands : (c : goal.In-Record invariant-loop decreases-loop) → Stands (list_of c) (at_of c) c.in-Record.kind c.in-Record.end
+stands c = front-record _ _ (sym c.read.ensures ∙ c.in-Record.is)
+
+pub returns-else-is_request : goal.returns-else-is_request
+returns-else-is_request c =
+    let q = c in
+    let k = q in
+    judge-other k.loop-at.invariant (stands k) (sym c.if-is_request.false ∙ q.is_request.ensures)
+
+pub loop-at-smaller : goal.loop-at-smaller
+loop-at-smaller c = let r = stands c in omega arith
+
+pub loop-at-preserved : goal.loop-at-preserved
+loop-at-preserved c =
+    let q = c in
+    let k = q in
+    judge-next k.loop-at.invariant (stands k) (sym c.if-is_request.true ∙ q.is_request.ensures)
+
+pub returns-then-list-gt-LIST_MOST : goal.returns-then-list-gt-LIST_MOST
+returns-then-list-gt-LIST_MOST c = judge-long _ c.if-list-gt-LIST_MOST.true
+
+pub loop-at-init : goal.loop-at-init
+loop-at-init c = judge-begin _ c.if-list-gt-LIST_MOST.false
+
+pub overflow_add-from : goal.overflow_add-from
+overflow_add-from c = let r = stands c in omega arith
+
+pub slice_bounds-is_request-count : goal.slice_bounds-is_request-count
+slice_bounds-is_request-count c = (stands c).head-inside
+
+pub slice_bounds-is_request-start : goal.slice_bounds-is_request-start
+slice_bounds-is_request-start c = (stands c).head-inside
+
+pub slice_bounds-is_request-end : goal.slice_bounds-is_request-end
+slice_bounds-is_request-end c = (stands c).inside
+
+pub returns : goal.returns
+returns c = judge-done c.loop-at.invariant c.loop-at-test.false
