@@ -38,4 +38,7 @@ returns c =
     rw (← e.span_end-e.ensures, ne_eqb _ _ e.if-e-eq1.false, ← b.byte_at.ensures, eq-eqb _ _ c.if-byte_at-ne93.false, ne_eqb _ _ c.if-e-s.false)
 
 pub overflow_add-result : goal.overflow_add-result
-overflow_add-result c = overflow_add-e c
+overflow_add-result c =
+    let b = c in
+    let e = b in
+    omega (arith, inside e.args.s.now e.span_end-e.result b.byte_at.result b.byte_at.ensures (omega arith))

@@ -33,4 +33,7 @@ returns c =
     rw (← (l.span_end-lang.ensures ∙ zero-add _), ← m.part_length-country.ensures, ← e.part_length-encoding.ensures, ← c.part_length-modifier.ensures)
 
 pub overflow_add-lang-2 : goal.overflow_add-lang-2
-overflow_add-lang-2 c = overflow_add-lang c
+overflow_add-lang-2 c =
+    let l = c in
+    let s = l.args.s.now in
+    omega (arith, marked_from 95 s l.span_end-lang.result (omega (arith, span-le key_byte s)))
