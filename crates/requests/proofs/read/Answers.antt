@@ -9,13 +9,13 @@ use Rattle.requests.proofs.Bodies.{group-short, key-short, two-more, two, no_kin
 use Rattle.requests.proofs.read.Goals as goal
 use Rattle.requests.proofs.read.Goals.{In-End, In-End-field_end, In-End-field_end-2}
 
-abbrev body_of : goal.In-End → List ℕ
+abbrev body_of : In-End → List ℕ
 body_of c = c.args.body.now
 
-abbrev group_of : goal.In-End-field_end → goal.In-End
+abbrev group_of : In-End-field_end → In-End
 group_of c = c
 
-abbrev key_of : goal.In-End-field_end-2 → goal.In-End-field_end
+abbrev key_of : In-End-field_end-2 → In-End-field_end
 key_of c = c
 
 -- where the group ends, the key and the text

@@ -8,11 +8,12 @@ use lib.ListN.{length}
 use Rattle.record.proofs.Place.{Stands, front-damaged, front-record}
 use Rattle.requests.proofs.Judging.{Judging, judge-long, judge-begin, judge-damaged, judge-other, judge-next, judge-done}
 use Rattle.requests.proofs.sound.Goals as goal
+use Rattle.requests.proofs.sound.Goals.{In-Record}
 
-abbrev list_of : goal.In-Record invariant-loop decreases-loop → List ℕ
+abbrev list_of : In-Record → List ℕ
 list_of c = c.args.list.now
 
-abbrev at_of : goal.In-Record invariant-loop decreases-loop → ℕ
+abbrev at_of : In-Record → ℕ
 at_of c = c.loop-at.at
 
 pub returns-in_default : goal.returns-in_default
@@ -21,7 +22,7 @@ returns-in_default c =
     judge-damaged t.loop-at.invariant t.loop-at-test.true (front-damaged _ _ (sym c.read.ensures ∙ c.in_default.is))
 
 -- the record that stands at the place
-stands : (c : goal.In-Record invariant-loop decreases-loop) → Stands (list_of c) (at_of c) c.in-Record.kind c.in-Record.end
+stands : (c : In-Record → Stands (list_of c) (at_of c) c.in-Record.kind c.in-Record.end
 stands c = front-record _ _ (sym c.read.ensures ∙ c.in-Record.is)
 
 pub returns-else-is_request : goal.returns-else-is_request
@@ -31,7 +32,7 @@ returns-else-is_request c =
     judge-other k.loop-at.invariant (stands k) (sym c.if-is_request.false ∙ q.is_request.ensures)
 
 pub loop-at-smaller : goal.loop-at-smaller
-loop-at-smaller c = let r = stands c in omega arith
+loop-at-smaller c = let r = stands (goal.at.loop-at-smaller c).In-Record in omega arith
 
 pub loop-at-preserved : goal.loop-at-preserved
 loop-at-preserved c =
@@ -46,16 +47,16 @@ pub loop-at-init : goal.loop-at-init
 loop-at-init c = judge-begin _ c.if-list-gt-LIST_MOST.false
 
 pub overflow_add-from : goal.overflow_add-from
-overflow_add-from c = let r = stands c in omega arith
+overflow_add-from c = let r = stands (goal.at.overflow_add-from c).In-Record in omega arith
 
 pub slice_bounds-is_request-count : goal.slice_bounds-is_request-count
-slice_bounds-is_request-count c = (stands c).head-inside
+slice_bounds-is_request-count c = (stands (goal.at.slice_bounds-is_request-count c).In-Record).head-inside
 
 pub slice_bounds-is_request-start : goal.slice_bounds-is_request-start
-slice_bounds-is_request-start c = (stands c).head-inside
+slice_bounds-is_request-start c = (stands (goal.at.slice_bounds-is_request-start c).In-Record).head-inside
 
 pub slice_bounds-is_request-end : goal.slice_bounds-is_request-end
-slice_bounds-is_request-end c = (stands c).inside
+slice_bounds-is_request-end c = (stands (goal.at.slice_bounds-is_request-end c).In-Record).inside
 
 pub returns : goal.returns
 returns c = judge-done c.loop-at.invariant c.loop-at-test.false

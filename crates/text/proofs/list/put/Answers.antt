@@ -15,4 +15,4 @@ returns c =
     let s = u in
     let a = s.args in
     let r : Rec = record { kind = 2; body = text_of (text_from a.k a.raw.now false 0) } in
-    (omega (arith, u.unescape-n.ensures.0), body-then-head a.out.now u.unescape-n.new.1.1.0 p.put_head.new.out a.at r s.requires.1 u.unescape-n.ensures.0 u.unescape-n.ensures.1 p.put_head.ensures)
+    (omega (arith, u.unescape-n.ensures.0), body-then-head a.out.now u.unescape-n.new.out p.put_head.new.out a.at r s.requires.1 u.unescape-n.ensures.0 u.unescape-n.ensures.1 p.put_head.ensures)

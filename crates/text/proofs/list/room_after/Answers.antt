@@ -16,21 +16,21 @@ slice_bounds-text_length-count c =
     let b = element-end a.raw.now l.loop-i.i (search rules) e.bare_end-e.ensures in
     b.0
 
--- pub UNKNOWN-slice-bounds-text-length-start : goal.UNKNOWN-slice-bounds-text-length-start
--- UNKNOWN-slice-bounds-text-length-start c =
---     let e = c in
---     let l = e in
---     let a = l.args in
---     let b = element-end a.raw.now l.loop-i.i (search rules) e.bare_end-e.ensures in
---     b.0
+pub slice_bounds-text_length-start : goal.slice_bounds-text_length-start
+slice_bounds-text_length-start c =
+    let e = c in
+    let l = e in
+    let a = l.args in
+    let b = element-end a.raw.now l.loop-i.i (search rules) e.bare_end-e.ensures in
+    b.0
 
--- pub UNKNOWN-slice-bounds-text-length-end : goal.UNKNOWN-slice-bounds-text-length-end
--- UNKNOWN-slice-bounds-text-length-end c =
---     let e = c in
---     let l = e in
---     let a = l.args in
---     let b = element-end a.raw.now l.loop-i.i (search rules) e.bare_end-e.ensures in
---     b.1
+pub slice_bounds-text_length-end : goal.slice_bounds-text_length-end
+slice_bounds-text_length-end c =
+    let e = c in
+    let l = e in
+    let a = l.args in
+    let b = element-end a.raw.now l.loop-i.i (search rules) e.bare_end-e.ensures in
+    b.1
 
 pub overflow_add-result : goal.overflow_add-result
 overflow_add-result c =

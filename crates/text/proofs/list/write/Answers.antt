@@ -14,21 +14,21 @@ slice_bounds-put-count c =
     let b = element-end a.raw.now l.loop-i.i (search rules) e.bare_end-e.ensures in
     b.0
 
--- pub UNKNOWN-slice-bounds-put-start : goal.UNKNOWN-slice-bounds-put-start
--- UNKNOWN-slice-bounds-put-start c =
---     let e = c in
---     let l = e in
---     let a = l.args in
---     let b = element-end a.raw.now l.loop-i.i (search rules) e.bare_end-e.ensures in
---     b.0
+pub slice_bounds-put-start : goal.slice_bounds-put-start
+slice_bounds-put-start c =
+    let e = c in
+    let l = e in
+    let a = l.args in
+    let b = element-end a.raw.now l.loop-i.i (search rules) e.bare_end-e.ensures in
+    b.0
 
--- pub UNKNOWN-slice-bounds-put-end : goal.UNKNOWN-slice-bounds-put-end
--- UNKNOWN-slice-bounds-put-end c =
---     let e = c in
---     let l = e in
---     let a = l.args in
---     let b = element-end a.raw.now l.loop-i.i (search rules) e.bare_end-e.ensures in
---     b.1
+pub slice_bounds-put-end : goal.slice_bounds-put-end
+slice_bounds-put-end c =
+    let e = c in
+    let l = e in
+    let a = l.args in
+    let b = element-end a.raw.now l.loop-i.i (search rules) e.bare_end-e.ensures in
+    b.1
 
 pub put-at-requires : goal.put-at-requires
 put-at-requires c =
