@@ -18,27 +18,22 @@ at_of c = c.loop-at.at
 
 pub returns-in_default : goal.returns-in_default
 returns-in_default c =
-    let t = c in
-    judge-damaged t.loop-at.invariant t.loop-at-test.true (front-damaged _ _ (sym c.read.ensures ∙ c.in_default.is))
+    judge-damaged c.loop-at.invariant c.loop-at-test.true (front-damaged _ _ (sym c.read.ensures ∙ c.in_default.is))
 
 -- the record that stands at the place
-stands : (c : In-Record → Stands (list_of c) (at_of c) c.in-Record.kind c.in-Record.end
+stands : (c : In-Record) → Stands (list_of c) (at_of c) c.in-Record.kind c.in-Record.end
 stands c = front-record _ _ (sym c.read.ensures ∙ c.in-Record.is)
 
 pub returns-else-is_request : goal.returns-else-is_request
 returns-else-is_request c =
-    let q = c in
-    let k = q in
-    judge-other k.loop-at.invariant (stands k) (sym c.if-is_request.false ∙ q.is_request.ensures)
+    judge-other c.loop-at.invariant (stands (goal.at.returns-else-is_request c).In-Record) (sym c.if-is_request.false ∙ c.is_request.ensures)
 
 pub loop-at-smaller : goal.loop-at-smaller
 loop-at-smaller c = let r = stands (goal.at.loop-at-smaller c).In-Record in omega arith
 
 pub loop-at-preserved : goal.loop-at-preserved
 loop-at-preserved c =
-    let q = c in
-    let k = q in
-    judge-next k.loop-at.invariant (stands k) (sym c.if-is_request.true ∙ q.is_request.ensures)
+    judge-next c.loop-at.invariant (stands (goal.at.loop-at-preserved c).In-Record) (sym c.if-is_request.true ∙ c.is_request.ensures)
 
 pub returns-then-list-gt-LIST_MOST : goal.returns-then-list-gt-LIST_MOST
 returns-then-list-gt-LIST_MOST c = judge-long _ c.if-list-gt-LIST_MOST.true
