@@ -29,7 +29,7 @@ PATHS = [("Rattle.demands.specs.Contracts", "Rattle.demands.specs.ByContracts")]
 
 WORD = re.compile(r"[A-Za-zα-ωℕ_][\w'₀-₉⁺ℕ-]*")
 DECLARED = re.compile(r"^\s*(?:(?:unfoldable|abbrev|pub|data|record|mutual)\s+)*([A-Za-zα-ωℕ₀-₉][^\s(){}:,.]*)\s*(?:[({].*)?:\s")
-STRING = re.compile(r'b?"(?:\\.|[^"\\])*"')
+STRING = re.compile(r"""b?"(?:\\.|[^"\\])*"|b?'(?:\\.[^']*|[^'\\\n])'""")
 
 
 def snake(name):

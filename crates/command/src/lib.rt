@@ -94,7 +94,7 @@ pub fn piece_at(s: &[u8], i: usize, quoted: bool) -> Piece
 
 // Where the next one begins.
 pub fn next_at(s: &[u8], i: usize, quoted: bool) -> usize
-    requires { (i < length s.now) × (length s.now ≤ fileMost) }
+    requires { (i < length s.now) × (length s.now ≤ file_most) }
     ensures { result ≡ i + command.width_of quoted (get_or s.now i 0) }
 {
     i + codes::width_of(quoted, s[i])
@@ -102,7 +102,7 @@ pub fn next_at(s: &[u8], i: usize, quoted: bool) -> usize
 
 // Which codes stand, with one piece more.
 fn see(seen: Seen, p: Piece) -> Seen
-    ensures { result ≡ step.seePiece seen p }
+    ensures { result ≡ step.see_piece seen p }
 {
     match p {
         Piece::Item => Seen {
@@ -125,9 +125,9 @@ fn see(seen: Seen, p: Piece) -> Seen
 
 // The pieces of bytes that stand at a place: which codes stand with them, or their first fault.
 fn check_pieces(s: &[u8], at: usize, quoted: bool, program: bool, seen: Seen) -> Checked
-    requires { at + length s.now ≤ fileMost }
-    ensures { step.checkedAs result ≡ step.unlessFault (command.piecesFault quoted program seen.taken s.now 0 at)
-        (step.seePieces seen (command.pieces_of quoted s.now)) }
+    requires { at + length s.now ≤ file_most }
+    ensures { step.checked_as result ≡ step.unless_fault (command.pieces_fault quoted program seen.taken s.now 0 at)
+        (step.see_pieces seen (command.pieces_of quoted s.now)) }
 {
     let mut i: usize = 0;
     let mut known = seen;
@@ -148,7 +148,7 @@ fn check_pieces(s: &[u8], at: usize, quoted: bool, program: bool, seen: Seen) ->
 
 // Whether a word of so many bytes, of them so many in quotes, is not closed or an empty program.
 fn is_unfit(program: bool, size: usize, n: usize) -> bool
-    requires { n ≤ fileMost }
+    requires { n ≤ file_most }
     ensures { result ≡ command.unfit program size n }
 {
     if size <= n + 1 {
@@ -162,9 +162,9 @@ fn is_unfit(program: bool, size: usize, n: usize) -> bool
 
 // A quoted word.
 fn check_quoted(word: &[u8], start: usize, program: bool, seen: Seen) -> Checked
-    requires { (start + length word.now ≤ fileMost) × (0 < length word.now) }
-    ensures { step.checkedAs result ≡ step.unlessFault (command.quotedFault program seen.taken (record { start = start; bytes = word.now }))
-        (step.seePieces seen (command.pieces_of true (command.inside word.now))) }
+    requires { (start + length word.now ≤ file_most) × (0 < length word.now) }
+    ensures { step.checked_as result ≡ step.unless_fault (command.quoted_fault program seen.taken (record { start = start; bytes = word.now }))
+        (step.see_pieces seen (command.pieces_of true (command.inside word.now))) }
 {
     let closing = characters::classes::bare_end(word, 1, b'"');
     let n = closing - 1;

@@ -1,0 +1,17 @@
+-- `rows::find_key` meets its contract: the rows from `p` on have the answer. Assumes nothing.
+use borrow.Author.Rules.{rules}
+use native.Mathlib.Omega.{arith}
+use mathlib.Core.Logic.{⊎_elim}
+use lib.ListN.{length}
+use Prim.Native.Nat.{◌-◌}
+use Rattle.rows.specs.Rows.{read_rows}
+use Rattle.rows.specs.Title.{Key}
+use Rattle.rows.proofs.Step.{end-le}
+use Rattle.rows.proofs.Seek.{value-fits, SeekIn, finding, seek-good, title-end, in_start, key-hit, key-other}
+use Rattle.rows.proofs.find_key.Given as goal
+
+abbrev pub invariant-loop-p : goal.invariant-loop-p
+invariant-loop-p l = SeekIn l.file l.group (finding (Key l.group l.key)) (finding (Key l.group l.key) (read_rows l.file)) l.p l.n l.inside
+
+abbrev pub decreases-loop-p : goal.decreases-loop-p
+decreases-loop-p l = length l.file - l.p

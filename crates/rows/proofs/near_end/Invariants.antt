@@ -1,0 +1,15 @@
+-- `rows::near_end` meets its contract: what is left to find from `i` is the whole answer. Assumes nothing.
+use Rattle.rows.proofs.Step.{line-none, line-ends, line-goes}
+use borrow.Author.Rules.{rules}
+use native.Mathlib.Omega.{arith}
+use mathlib.Core.Path.{◌≡◌, refl}
+use lib.ListN.{length, drop}
+use Prim.Native.Nat.{◌+◌, ◌-◌}
+use Rattle.rows.specs.Find.{line_length}
+use Rattle.rows.proofs.near_end.Given as goal
+
+abbrev pub invariant-loop-i : goal.invariant-loop-i
+invariant-loop-i l = l.i + line_length (drop l.i l.s) ≡ l.from + line_length (drop l.from l.s)
+
+abbrev pub decreases-loop-i : goal.decreases-loop-i
+decreases-loop-i l = length l.s - l.i

@@ -1,0 +1,16 @@
+-- `rows::same` meets its contract: what is left to compare is the whole answer. Assumes nothing.
+use borrow.Author.Rules.{rules}
+use borrow.Author.Tests.{eq-eqb, ne_eqb}
+use Rattle.base.proofs.Scan.{here, done}
+use Rattle.base.proofs.Tests.{by-test, same_true}
+use mathlib.Core.Path.{◌≡◌, refl, sym, ap}
+use lib.ListN.{length, drop}
+use Prim.Native.Nat.{◌-◌}
+use Rattle.base.specs.Lists.{same}
+use Rattle.rows.proofs.same.Given as goal
+
+abbrev pub invariant-loop-i : goal.invariant-loop-i
+invariant-loop-i l = same (drop l.i l.a) (drop l.i l.b) ≡ same l.a l.b
+
+abbrev pub decreases-loop-i : goal.decreases-loop-i
+decreases-loop-i l = length l.a - l.i
