@@ -38,19 +38,19 @@ pub loop-p-init : goal.loop-p-init
 loop-p-init c = seek-start _ (finding (Group _)) c.requires
 
 pub overflow_sub-t : goal.overflow_sub-t
-overflow_sub-t c = omega (arith, slice_bounds-is_joined-count c)
+overflow_sub-t c = omega (arith, ((seek-header c.loop-p.invariant (search rules) c.line_end-e.ensures (sym (eq-eqb _ _ (sym c.byte_at.ensures ∙ c.if-byte_at-eq91.true)))).1))
 
 pub slice_bounds-is_joined-start : goal.slice_bounds-is_joined-start
-slice_bounds-is_joined-start c = omega (arith, slice_bounds-is_joined-count c)
+slice_bounds-is_joined-start c = omega (arith, ((seek-header c.loop-p.invariant (search rules) c.line_end-e.ensures (sym (eq-eqb _ _ (sym c.byte_at.ensures ∙ c.if-byte_at-eq91.true)))).1))
 
 pub slice_bounds-is_joined-end : goal.slice_bounds-is_joined-end
-slice_bounds-is_joined-end c = omega (arith, slice_bounds-is_joined-count c)
+slice_bounds-is_joined-end c = omega (arith, ((seek-header c.loop-p.invariant (search rules) c.line_end-e.ensures (sym (eq-eqb _ _ (sym c.byte_at.ensures ∙ c.if-byte_at-eq91.true)))).1))
 
 pub overflow_add-p : goal.overflow_add-p
-overflow_add-p c = omega (arith, part-l-end c)
+overflow_add-p c = omega (arith, (end-le c.args.file.now {p = c.loop-p.p} (search rules) c.line_end-e.ensures))
 
 pub overflow_add-p-else-byte_at-eq91 : goal.overflow_add-p-else-byte_at-eq91
-overflow_add-p-else-byte_at-eq91 c = omega (arith, part-l-end c)
+overflow_add-p-else-byte_at-eq91 c = omega (arith, (end-le c.args.file.now {p = c.loop-p.p} (search rules) c.line_end-e.ensures))
 
 pub returns : goal.returns
 returns c = title-end _ c.loop-p.invariant c.loop-p-test.false

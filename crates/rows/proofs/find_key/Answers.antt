@@ -1,7 +1,7 @@
 -- `rows::find_key` meets its contract: the rows from `p` on have the answer. Assumes nothing.
 use borrow.Author.Rules.{rules}
 use native.Mathlib.Omega.{arith}
-use mathlib.Core.Logic.{⊎_elim}
+use Rattle.rows.proofs.find_key.Goals.{then-inside+else-is_named, else-inside}
 use lib.ListN.{length}
 use Prim.Native.Nat.{◌-◌}
 use Rattle.rows.specs.Rows.{read_rows}
@@ -33,13 +33,13 @@ loop-p-preserved c =
     rw c.is_inside-inside.ensures
     (key-other _ _ c.loop-p.invariant (search rules) c.line_end-e.ensures
     (rw (← c.is_inside-inside.ensures)
-    (⊎_elim (λ w. rw (w.0.taken, ← w.1.ensures) w.2.left) (λ w. rw w.left) c.if-inside.branch)))
+    (elim c.if-inside.branch [ then-inside+else-is_named w ↦ rw (w.if-inside.true, ← w.is_named.ensures) w.if-is_named.false | else-inside w ↦ rw w.if-inside.false ])))
 
 pub loop-p-init : goal.loop-p-init
 loop-p-init c = in_start _ _ (finding (Key _ _)) c.requires
 
 pub overflow_add-p : goal.overflow_add-p
-overflow_add-p c = omega (arith, part-l-end c)
+overflow_add-p c = omega (arith, (end-le c.args.file.now {p = c.loop-p.p} (search rules) c.line_end-e.ensures))
 
 pub returns : goal.returns
 returns c = title-end _ c.loop-p.invariant.seek c.loop-p-test.false

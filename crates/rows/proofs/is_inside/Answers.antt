@@ -17,13 +17,13 @@ returns-then-byte_at-eq91 c =
     rw (c.same.ensures, (header-good a.l.now (eq-eqb _ _ (sym c.byte_at.ensures ∙ c.if-byte_at-eq91.true)) c.requires).0)
 
 pub overflow_sub-t : goal.overflow_sub-t
-overflow_sub-t c = omega (arith, slice_bounds-same-count c)
+overflow_sub-t c = omega (arith, ((header-good c.args.l.now (eq-eqb _ _ (sym c.byte_at.ensures ∙ c.if-byte_at-eq91.true)) c.requires).1))
 
 pub slice_bounds-same-start : goal.slice_bounds-same-start
-slice_bounds-same-start c = omega (arith, slice_bounds-same-count c)
+slice_bounds-same-start c = omega (arith, ((header-good c.args.l.now (eq-eqb _ _ (sym c.byte_at.ensures ∙ c.if-byte_at-eq91.true)) c.requires).1))
 
 pub slice_bounds-same-end : goal.slice_bounds-same-end
-slice_bounds-same-end c = omega (arith, slice_bounds-same-count c)
+slice_bounds-same-end c = omega (arith, ((header-good c.args.l.now (eq-eqb _ _ (sym c.byte_at.ensures ∙ c.if-byte_at-eq91.true)) c.requires).1))
 
 pub returns : goal.returns
 returns c = inside-stays _ _ _ (ne_eqb _ _ (λ z. c.if-byte_at-eq91.false (c.byte_at.ensures ∙ z)))
