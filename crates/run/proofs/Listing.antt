@@ -62,4 +62,4 @@ items-length kind list = go (read_list 2 list_most list) refl
     go none e h = no (cc)
     go (some bs) e h =
         let l = list-sound 2 list_most list e in
-        rw (l.bodies_of, length-list (records_of kind (bodies_in l.records)), other-kind kind l.records) (omega (arith, cut-length list 0 l.records (omega arith) l.cuts))
+        rw (l.bodies_are, length-list (records_of kind (bodies_in l.records)), other-kind kind l.records) (omega (arith, cut-length list 0 l.records (omega arith) l.cuts))

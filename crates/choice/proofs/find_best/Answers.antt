@@ -1,0 +1,62 @@
+-- `find_best` meets its contract: the rows from `at` on, and the best row before them, have the answer. Assumes nothing.
+use borrow.Author.Rules.{rules}
+use native.Mathlib.Omega.{arith}
+use mathlib.Core.Path.{sym, ◌∙◌}
+use mathlib.Core.Logic.{⊎_elim}
+use lib.ListN.{length}
+use Prim.Native.Nat.{◌+◌, ◌-◌}
+use Rattle.rows.proofs.Step.{end-le}
+use Rattle.rows.proofs.Seek.{value-fits, seek-good}
+use Rattle.choice.specs.Step.{all_keys}
+use Rattle.choice.proofs.Ranks.{line_other}
+use Rattle.choice.proofs.Best.{Best, best-start, best-end, best-found, best-as, best-outside, best-stays, best-better}
+use Rattle.choice.proofs.find_best.Goals as goal
+use Rattle.choice.proofs.find_best.Goals.{Joined-inside}
+
+pub slice_bounds-l-end : goal.slice_bounds-l-end
+slice_bounds-l-end c =
+    end-le c.args.file.now {p = c.loop-at.at} (search rules) c.line_end-e.ensures
+
+pub is_inside-inside-requires : goal.is_inside-inside-requires
+is_inside-inside-requires c =
+    seek-good c.loop-at.invariant.walk.seek (search rules) c.line_end-e.ensures
+
+pub rank-r-requires : goal.rank-r-requires
+rank-r-requires c =
+    (c.requires.1, c.requires.2, c.requires.3, sym c.begins.ensures ∙ c.if-begins.true)
+
+pub overflow_add-found : goal.overflow_add-found
+overflow_add-found c =
+    omega (arith, value-fits c.args.file.now {p = c.loop-at.at} (search rules) c.line_end-e.ensures c.value_start.ensures)
+
+next : (c : Joined-inside)
+    → Best c.args.file.now c.args.group.now (all_keys c.args.key.now c.args.locale.now)
+    (c.line_end-e.result + 1) (c.loop-at.n + 1) c.is_inside-inside.result c.if-inside.best c.if-inside.found
+next c = 
+    ⊎_elim
+    (λ w. best-as (best-better _ _ _ c.loop-at.invariant (search rules) c.line_end-e.ensures c.is_inside-inside.ensures w.0.taken w.3.ensures w.4.taken w.5.ensures) w.6 w.7)
+    (⊎_elim
+    (λ w. best-as (best-stays _ _ _ c.loop-at.invariant (search rules) c.line_end-e.ensures c.is_inside-inside.ensures w.0.taken w.3.ensures w.4.left) w.5 w.6)
+    (⊎_elim
+    (λ w.
+    best-as
+    (best-stays _ _ _ c.loop-at.invariant (search rules) c.line_end-e.ensures c.is_inside-inside.ensures w.0.taken
+    (line_other c.args.key.now c.args.locale.now c.requires.1 _ (sym w.1.ensures ∙ w.2.left)) c.loop-at.invariant.most)
+    w.3 w.4)
+    (λ w. best-as (best-outside _ _ _ c.loop-at.invariant (search rules) c.line_end-e.ensures c.is_inside-inside.ensures w.0.left) w.1 w.2)))
+    c.if-inside.branch
+
+pub loop-at-init : goal.loop-at-init
+loop-at-init c = best-start c.args.file.now c.args.group.now c.args.key.now c.args.locale.now c.requires.0
+
+pub returns-then-best-eq0 : goal.returns-then-best-eq0
+returns-then-best-eq0 c = best-found _ _ _ (next (goal.at.returns-then-best-eq0 c).Joined-inside) c.if-best-eq0.true
+
+pub overflow_add-at : goal.overflow_add-at
+overflow_add-at c = omega (arith, (end-le c.args.file.now {p = c.loop-at.at} (search rules) c.line_end-e.ensures))
+
+pub loop-at-preserved : goal.loop-at-preserved
+loop-at-preserved c = next (goal.at.loop-at-preserved c).Joined-inside
+
+pub returns : goal.returns
+returns c = best-end _ _ _ c.loop-at.invariant c.loop-at-test.false
