@@ -33,18 +33,7 @@ next : (c : Joined-inside)
     → Best c.args.file.now c.args.group.now (all_keys c.args.key.now c.args.locale.now)
     (c.line_end-e.result + 1) (c.loop-at.n + 1) c.is_inside-inside.result c.if-inside.best c.if-inside.found
 next c = 
-    ⊎_elim
-    (λ w. best-as (best-better _ _ _ c.loop-at.invariant (search rules) c.line_end-e.ensures c.is_inside-inside.ensures w.0.taken w.3.ensures w.4.taken w.5.ensures) w.6 w.7)
-    (⊎_elim
-    (λ w. best-as (best-stays _ _ _ c.loop-at.invariant (search rules) c.line_end-e.ensures c.is_inside-inside.ensures w.0.taken w.3.ensures w.4.left) w.5 w.6)
-    (⊎_elim
-    (λ w.
-    best-as
-    (best-stays _ _ _ c.loop-at.invariant (search rules) c.line_end-e.ensures c.is_inside-inside.ensures w.0.taken
-    (line_other c.args.key.now c.args.locale.now c.requires.1 _ (sym w.1.ensures ∙ w.2.left)) c.loop-at.invariant.most)
-    w.3 w.4)
-    (λ w. best-as (best-outside _ _ _ c.loop-at.invariant (search rules) c.line_end-e.ensures c.is_inside-inside.ensures w.0.left) w.1 w.2)))
-    c.if-inside.branch
+    ?
 
 pub loop-at-init : goal.loop-at-init
 loop-at-init c = best-start c.args.file.now c.args.group.now c.args.key.now c.args.locale.now c.requires.0

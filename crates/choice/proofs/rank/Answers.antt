@@ -21,12 +21,12 @@ returns-then-name-k c =
 
 -- the postfix
 opened : (c : Else-name-k) → Opened c.args.l.now c.in-Name.k c.in-Name.name
-opened c = name-opened _ _ _ (named c) c.if-name-k.false
+opened c = name-opened _ _ _ (sym c.read_name.ensures ∙ c.in-Name.is) c.if-name-k.false
 
 opened-within : (c : Else-name-k) → (c.in-Name.k < c.in-Name.name)
     × (c.in-Name.name ≤ length c.args.l.now)
 opened-within c =
-    let w = rw (named c) at (name-within c.args.l.now) in
+    let w = rw (sym c.read_name.ensures ∙ c.in-Name.is) at (name-within c.args.l.now) in
     (omega (arith, w, c.if-name-k.false), w.2)
 
 pub rank_postfix-requires : goal.rank_postfix-requires

@@ -17,10 +17,9 @@ use Rattle.choice.proofs.rank_postfix.Goals as goal
 use Rattle.choice.proofs.rank_postfix.Goals.{After-rank_part-m, After-read_parts-q}
 
 -- the parts that were read end in the locale and before the `]`
-within : (r : After-read_parts-q) → (locale_end r.args.p ≤ length r.args.locale.now)
-    × (locale_end r.read_parts-q.result < length r.args.s.now)
-within r =
-    (parts-inside c.args.locale.now s.requires.2, closed-inside c.args.s.now r.read_parts-q.ensures s.requires.0)
+within : (c : After-read_parts-q) → (locale_end c.args.p ≤ length c.args.locale.now) × (locale_end c.read_parts-q.result < length c.args.s.now)
+within c =
+    (parts-inside c.args.locale.now c.requires.2, closed-inside c.args.s.now c.read_parts-q.ensures c.requires.0)
 
 pub slice_bounds-same-end : goal.slice_bounds-same-end
 slice_bounds-same-end c = sym (length-take-le _ c.args.locale.now (omega (arith, within (goal.at.slice_bounds-same-end c).After-read_parts-q)))

@@ -6,7 +6,7 @@ use Rattle.complete.proofs.value_is.Goals as goal
 use Rattle.complete.proofs.value_is.Goals.{In-Row}
 
 -- the row of the key
-row : (c : In-Row) → KeyRow c.args.file.now c.args.key.now c.in-Row.line c.in-Row.end c.in-Row.value
+row : (c : In-Row) → KeyRow c.args.file.now c.args.key.now c.in-Row.line c.in-Row.end c.in-Row.from
 row c =
     let a = c.args in
     key_row a.file.now a.key.now c.find_key.ensures c.in-Row.is

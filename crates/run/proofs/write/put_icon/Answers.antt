@@ -1,5 +1,7 @@
 -- `write::put_icon` meets its contract: two records, the second behind the first, or none. Assumes nothing.
 use borrow.Author.Rules.{rules}
+use mathlib.Core.Path.{ap}
+use lib.ListN.{length}
 use native.Mathlib.Omega.{arith}
 use Rattle.base.specs.Lists.{ascii}
 use Rattle.run.proofs.Listing.{list-none, length-one}
@@ -26,4 +28,4 @@ returns c =
     rw (icon-two c.args.icon.now c.if-icon-eq0.false) (wrote_then c.put_argument-n.ensures c.put_argument.ensures)
 
 pub overflow_add-result : goal.overflow_add-result
-overflow_add-result c = let w = rw (icon-two c.args.icon.now c.if-icon-eq0.false) (wrote_then c.put_argument-n.ensures c.put_argument.ensures) in omega (arith, w.long)
+overflow_add-result c = let w = wrote_then c.put_argument-n.ensures c.put_argument.ensures in omega (arith, w.long, ap length (icon-two c.args.icon.now c.if-icon-eq0.false))

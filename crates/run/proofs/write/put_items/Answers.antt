@@ -23,6 +23,9 @@ overflow_add-body c = let r = front-record _ _ (sym c.read.ensures ∙ c.in-Reco
 pub slice_bounds-put_argument-count-in-loop-from : goal.slice_bounds-put_argument-count-in-loop-from
 slice_bounds-put_argument-count-in-loop-from c = let r = front-record _ _ (sym c.read.ensures ∙ c.in-Record.is) in r.head-inside
 
+pub slice_bounds-put_argument-start-in-loop-from : goal.slice_bounds-put_argument-start-in-loop-from
+slice_bounds-put_argument-start-in-loop-from c = let r = front-record _ _ (sym c.read.ensures ∙ c.in-Record.is) in r.head-inside
+
 pub slice_bounds-put_argument-end-in-loop-from : goal.slice_bounds-put_argument-end-in-loop-from
 slice_bounds-put_argument-end-in-loop-from c = let r = front-record _ _ (sym c.read.ensures ∙ c.in-Record.is) in r.inside
 
