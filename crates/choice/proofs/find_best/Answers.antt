@@ -2,7 +2,6 @@
 use borrow.Author.Rules.{rules}
 use native.Mathlib.Omega.{arith}
 use mathlib.Core.Path.{sym, ◌∙◌}
-use mathlib.Core.Logic.{⊎_elim}
 use lib.ListN.{length}
 use Prim.Native.Nat.{◌+◌, ◌-◌}
 use Rattle.rows.proofs.Step.{end-le}
@@ -11,7 +10,7 @@ use Rattle.choice.specs.Step.{all_keys}
 use Rattle.choice.proofs.Ranks.{line_other}
 use Rattle.choice.proofs.Best.{Best, best-start, best-end, best-found, best-as, best-outside, best-stays, best-better}
 use Rattle.choice.proofs.find_best.Goals as goal
-use Rattle.choice.proofs.find_best.Goals.{Joined-inside}
+use Rattle.choice.proofs.find_best.Goals.{Joined-inside, then-inside+then-begins+then-r-best, then-inside+then-begins+else-r-best, then-inside+else-begins, else-inside}
 
 pub slice_bounds-l-end : goal.slice_bounds-l-end
 slice_bounds-l-end c =
@@ -33,7 +32,18 @@ next : (c : Joined-inside)
     → Best c.args.file.now c.args.group.now (all_keys c.args.key.now c.args.locale.now)
     (c.line_end-e.result + 1) (c.loop-at.n + 1) c.is_inside-inside.result c.if-inside.best c.if-inside.found
 next c = 
-    ?
+    elim c.if-inside.branch [
+      then-inside+then-begins+then-r-best w ↦
+        best-as (best-better _ _ _ c.loop-at.invariant (search rules) c.line_end-e.ensures c.is_inside-inside.ensures w.if-inside.true w.rank-r.ensures w.if-r-best.true w.value_start.ensures) w.best-is w.found-is
+      | then-inside+then-begins+else-r-best w ↦
+        best-as (best-stays _ _ _ c.loop-at.invariant (search rules) c.line_end-e.ensures c.is_inside-inside.ensures w.if-inside.true w.rank-r.ensures w.if-r-best.false) w.best-is w.found-is
+      | then-inside+else-begins w ↦
+        best-as
+        (best-stays _ _ _ c.loop-at.invariant (search rules) c.line_end-e.ensures c.is_inside-inside.ensures w.if-inside.true
+        (line_other c.args.key.now c.args.locale.now c.requires.1 _ (sym w.begins.ensures ∙ w.if-begins.false)) c.loop-at.invariant.most)
+        w.best-is w.found-is
+      | else-inside w ↦ best-as (best-outside _ _ _ c.loop-at.invariant (search rules) c.line_end-e.ensures c.is_inside-inside.ensures w.if-inside.false) w.best-is w.found-is
+    ]
 
 pub loop-at-init : goal.loop-at-init
 loop-at-init c = best-start c.args.file.now c.args.group.now c.args.key.now c.args.locale.now c.requires.0
