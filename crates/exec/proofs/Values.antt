@@ -16,6 +16,7 @@ use Rattle.base.proofs.Tests.{no}
 use Rattle.fault.specs.declared.Fault.{Fault}
 use Rattle.fault.specs.declared.Fault.TheVariants.{BadEscape, Missing}
 use Rattle.fault.specs.Answer.{Answer, given, refused, ◌>>=◌, some_or, then}
+use Rattle.text.proofs.OutputLaws.{Leaves}
 use Rattle.text.specs.Escape.{escape, text_from, read_text}
 use Rattle.text.specs.Output.{answered, written_length, held}
 use Rattle.text.specs.Step.{text_of}
@@ -66,9 +67,9 @@ read-le raw = text-le _ raw false 0
 -- ---- a text that was read to a buffer
 
 -- where there is room, the whole text is told and held
-pub read-room : (a : Answer (List ℕ)) (s : List ℕ) {r : Written} {t : List ℕ} → length (text_of a) ≤ length s → (answered r ≡ written_length a s) × (t ≡ held a s) → ReadTo a s r t
-read-room (given x) s h p = record { tells = p.0 ∙ rw (le-leb (length x) (length s) h); is = p.1 ∙ rw (le-leb (length x) (length s) h); fits = h }
-read-room (refused f) s h p = record { tells = p.0; is = p.1; fits = h }
+pub read-room : (a : Answer (List ℕ)) (s : List ℕ) {r : Written} {t : List ℕ} → length (text_of a) ≤ length s → Leaves a s (answered r) t → ReadTo a s r t
+read-room (given x) s h p = record { tells = p.answer ∙ rw (le-leb (length x) (length s) h); is = p.output ∙ rw (le-leb (length x) (length s) h); fits = h }
+read-room (refused f) s h p = record { tells = p.answer; is = p.output; fits = h }
 
 -- the text is the buffer's front, as long as was told; or the refusal is the text's
 pub read-given : (a : Answer (List ℕ)) {s t : List ℕ} {n : ℕ} → ReadTo a s (written.Bytes n) t → (a ≡ given (take n t)) × (n ≤ length t)

@@ -1,0 +1,65 @@
+-- `find_target` meets its contract: the tests that led to each return say which refusal comes first. Assumes nothing.
+use borrow.Author.Rules.{rules}
+use borrow.Author.Tests.{not-true, not-false}
+use mathlib.Core.Path.{◌≡◌, sym, ap, ◌∙◌}
+use mathlib.Core.Bool.{true, false, ◌&&◌}
+use mathlib.Core.List.{List}
+use Prim.Native.Nat.{ℕ}
+use Rattle.fault.specs.declared.Fault.TheVariants.{BadArgument}
+use Rattle.fault.specs.Answer.{refused}
+use Rattle.text.specs.Escape.{fit_text}
+use Rattle.characters.specs.Step.{fault_of}
+use Rattle.line.specs.Form.{group_form, key_form}
+use Rattle.change.specs.Change.{edit_of}
+use Rattle.change.specs.Target.{request_by}
+use Rattle.change.specs.declared.Operation.{Operation}
+use Rattle.change.specs.declared.Operation.TheVariants.{Set, Remove}
+use Rattle.change.proofs.find_target.Goals as goal
+use Rattle.change.proofs.find_target.Goals.{Else-not-is_key}
+
+-- an argument that is not of the form, whatever is asked for
+bad-argument : (file group key text : List ℕ) (op : Operation) → (group_form group && key_form key) ≡ false → refused BadArgument ≡ edit_of file (request_by op group key text)
+unfolding edit_of
+bad-argument file group key text Set e = rw e
+bad-argument file group key text Remove e = rw e
+
+pub returns-then-not-is_group : goal.returns-then-not-is_group
+returns-then-not-is_group c =
+    let a = c.args in
+    record { is = bad-argument a.file.now a.group.now a.key.now a.text.now a.op (rw (sym c.is_group.ensures ∙ c.if-not-is_group.true)); inside = tt }
+
+-- both are of the form
+good : (c : Else-not-is_key) → let a = c.args in (group_form a.group.now && key_form a.key.now) ≡ true
+good c = rw (sym c.is_group.ensures ∙ c.if-not-is_group.false, sym c.is_key.ensures ∙ c.if-not-is_key.false)
+
+pub returns-then-not-is_key : goal.returns-then-not-is_key
+returns-then-not-is_key c =
+    let a = c.args in
+    record {
+      is = bad-argument a.file.now a.group.now a.key.now a.text.now a.op (rw (sym c.is_group.ensures ∙ c.if-not-is_group.false, sym c.is_key.ensures ∙ c.if-not-is_key.true));
+      inside = tt;
+    }
+
+pub find_remove-requires : goal.find_remove-requires
+find_remove-requires c = (c.requires, good (goal.at.find_remove-requires c).Else-not-is_key)
+
+pub returns-in-Remove : goal.returns-in-Remove
+unfolding edit_of
+returns-in-Remove c =
+    let a = c.args in
+    let f = c.find_remove.ensures in
+    record { is = rw (c.in-Remove.is, good (goal.at.returns-in-Remove c).Else-not-is_key) (f.is a.text.now); inside = f.inside }
+
+pub returns-in-Fault : goal.returns-in-Fault
+unfolding edit_of fit_text
+returns-in-Fault c = record { is = rw (c.in-Set.is, good (goal.at.returns-in-Fault c).Else-not-is_key, ← (sym (ap fault_of c.in-Fault.is) ∙ c.scan.ensures)); inside = tt }
+
+pub returns-in-Sound : goal.returns-in-Sound
+unfolding edit_of fit_text
+returns-in-Sound c =
+    let a = c.args in
+    let f = c.find_set.ensures in
+    record {
+      is = rw (c.in-Set.is, good (goal.at.returns-in-Sound c).Else-not-is_key, ← (sym (ap fault_of c.in-Sound.is) ∙ c.scan.ensures)) (f.is a.text.now);
+      inside = f.inside;
+    }

@@ -1,0 +1,40 @@
+-- `group_end` meets its contract: the last row of the group before `p` is known. Assumes nothing.
+use borrow.Author.Rules.{rules}
+use native.Mathlib.Omega.{arith}
+use lib.ListN.{length}
+use Prim.Native.Nat.{◌-◌}
+use Rattle.rows.proofs.Step.{end-le}
+use Rattle.change.proofs.Passing.{Ending, ending-start, ending-end, ending-row, ending-other}
+use Rattle.change.proofs.group_end.Goals as goal
+
+pub slice_bounds-l-end : goal.slice_bounds-l-end
+slice_bounds-l-end c =
+    end-le c.args.file.now {p = c.loop-p.p} (search rules) c.line_end-e.ensures
+
+pub loop-p-preserved-then-is_of_group : goal.loop-p-preserved-then-is_of_group
+loop-p-preserved-then-is_of_group c =
+    rw c.behind-t.ensures
+    (ending-row c.loop-p.invariant (search rules) c.line_end-e.ensures c.in_group-inside.ensures (rw (← c.is_of_group.ensures) c.if-is_of_group.true))
+
+pub loop-p-preserved : goal.loop-p-preserved
+loop-p-preserved c =
+    ending-other c.loop-p.invariant (search rules) c.line_end-e.ensures c.in_group-inside.ensures (rw (← c.is_of_group.ensures) c.if-is_of_group.false)
+
+-- ANON 4/19 other between start and slice_bounds-l-end, of loop-p-init slice_bounds-l-count slice_bounds-l-start
+-- | ending-start _ _ c.same-inside.ensures
+
+pub behind-t-requires : goal.behind-t-requires
+behind-t-requires c =
+    end-le c.args.file.now {p = c.loop-p.p} (search rules) c.line_end-e.ensures
+
+pub overflow_add-p : goal.overflow_add-p
+overflow_add-p c = omega (arith, (end-le c.args.file.now {p = c.loop-p.p} (search rules) c.line_end-e.ensures))
+
+pub overflow_add-p-else-is_of_group : goal.overflow_add-p-else-is_of_group
+overflow_add-p-else-is_of_group c = omega (arith, (end-le c.args.file.now {p = c.loop-p.p} (search rules) c.line_end-e.ensures))
+
+pub returns : goal.returns
+returns c = ending-end c.loop-p.invariant c.loop-p-test.false
+
+pub loop-p-init : goal.loop-p-init
+loop-p-init c = ending-start _ _ c.same-inside.ensures

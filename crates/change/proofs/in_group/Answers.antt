@@ -1,0 +1,41 @@
+-- `in_group` meets its contract: only a header leads to another group. Assumes nothing.
+use borrow.Author.Rules.{rules}
+use borrow.Author.Tests.{ne_eqb}
+use native.Mathlib.Omega.{arith}
+use lib.ListN.{length}
+use Rattle.line.specs.declared.Line.TheVariants.{Header}
+use Rattle.line.proofs.Bounds.{LineWithin, line-within}
+use Rattle.rows.proofs.Lines.{group-stays}
+use Rattle.change.proofs.in_group.Goals as goal
+use Rattle.change.proofs.in_group.Goals.{In-Header}
+
+pub returns-then-byte_at-ne91 : goal.returns-then-byte_at-ne91
+returns-then-byte_at-ne91 c = λ g i. rw (group-stays g c.args.l.now (rw (← c.byte_at.ensures) (ne_eqb _ 91 c.if-byte_at-ne91.true))) i
+
+-- a header's name lies in its line
+within : (c : In-Header) → let s = c.args in LineWithin (length s.l.now) (Header c.in-Header.end)
+within c = rw (← c.read_line.ensures, c.in-Header.is) at (line-within c.args.l.now)
+
+pub slice_bounds-same-count : goal.slice_bounds-same-count
+slice_bounds-same-count c = omega (arith, within (goal.at.slice_bounds-same-count c).In-Header)
+
+pub slice_bounds-same-start : goal.slice_bounds-same-start
+slice_bounds-same-start c = omega (arith, within (goal.at.slice_bounds-same-start c).In-Header)
+
+pub slice_bounds-same-end : goal.slice_bounds-same-end
+slice_bounds-same-end c = omega (arith, within (goal.at.slice_bounds-same-end c).In-Header)
+
+pub returns-in-Header : goal.returns-in-Header
+returns-in-Header c = λ g i. rw (← c.read_line.ensures, c.in-Header.is) c.same.ensures
+
+pub returns-in-Blank : goal.returns-in-Blank
+returns-in-Blank c = λ g i. rw (← c.read_line.ensures, c.in-Blank.is) i
+
+pub returns-in-Comment : goal.returns-in-Comment
+returns-in-Comment c = λ g i. rw (← c.read_line.ensures, c.in-Comment.is) i
+
+pub returns-in-Entry : goal.returns-in-Entry
+returns-in-Entry c = λ g i. rw (← c.read_line.ensures, c.in-Entry.is) i
+
+pub returns-in-Bad : goal.returns-in-Bad
+returns-in-Bad c = λ g i. rw (← c.read_line.ensures, c.in-Bad.is) i

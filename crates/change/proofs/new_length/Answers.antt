@@ -1,0 +1,19 @@
+-- `new_length` meets its contract: the lengths of the parts, none counted past the limit. Assumes nothing.
+use borrow.Author.Rules.{rules}
+use native.Mathlib.Omega.{arith}
+use Rattle.change.proofs.Writing.{new-entry-length}
+use Rattle.change.proofs.new_length.Goals as goal
+
+pub returns-in-Entry : goal.returns-in-Entry
+returns-in-Entry c =
+    let a = c.args in
+    rw c.in-Entry.is (omega (arith, new-entry-length a.key.now a.text.now c.in-Entry.at c.in-Entry.after))
+
+pub returns-in-Value : goal.returns-in-Value
+returns-in-Value c = rw c.in-Value.is (cc)
+
+pub returns-in-Line : goal.returns-in-Line
+returns-in-Line c = rw c.in-Line.is
+
+pub returns-in-Refused : goal.returns-in-Refused
+returns-in-Refused c = rw c.in-Refused.is

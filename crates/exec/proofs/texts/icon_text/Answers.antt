@@ -1,0 +1,43 @@
+-- `texts::icon_text` meets its contract: the ends chosen tell the value that is read, and without them there is none. Assumes nothing.
+use native.Mathlib.Omega.{arith}
+use Rattle.text.specs.Escape.{text_from, read_text}
+use Rattle.exec.proofs.Values.{chosen-within, icon-chosen, icon-unasked, read_none}
+use Rattle.base.specs.Lists.{all}
+use Rattle.characters.specs.Class.{key_byte}
+use Rattle.line.specs.Form.{plain_form}
+use borrow.Author.Rules.{rules}
+use Rattle.exec.proofs.texts.icon_text.Goals as goal
+
+pub chosen_ends-requires : goal.chosen_ends-requires
+unfolding plain_form all key_byte
+chosen_ends-requires c = search rules
+
+pub returns-in_default : goal.returns-in_default
+unfolding read_text text_from
+returns-in_default c =
+    let a = c.args in
+    rw (c.if-wanted.true, icon-chosen a.file.now a.locale.now a.group.now, ← c.chosen_ends.ensures, c.in_default.is) (read_none a.out.now)
+
+pub slice_bounds-read_whole-count : goal.slice_bounds-read_whole-count
+slice_bounds-read_whole-count c = (chosen-within _ _ _ _ c.chosen_ends.ensures c.in-At.is).0
+
+pub slice_bounds-read_whole-end : goal.slice_bounds-read_whole-end
+slice_bounds-read_whole-end c = (chosen-within _ _ _ _ c.chosen_ends.ensures c.in-At.is).1
+
+pub read_whole-requires : goal.read_whole-requires
+read_whole-requires c =
+    let w = chosen-within _ _ _ _ c.chosen_ends.ensures c.in-At.is in
+    omega arith
+
+pub returns-then-wanted : goal.returns-then-wanted
+returns-then-wanted c =
+    let a = c.args in
+    rw (c.if-wanted.true, icon-chosen a.file.now a.locale.now a.group.now, ← c.chosen_ends.ensures, c.in-At.is) c.read_whole.ensures
+
+pub returns : goal.returns
+returns c =
+    let a = c.args in
+    rw (c.if-wanted.false, icon-unasked a.file.now a.locale.now a.group.now) (read_none a.out.now)
+
+pub slice_bounds-read_whole-start : goal.slice_bounds-read_whole-start
+slice_bounds-read_whole-start c = (chosen-within _ _ _ _ c.chosen_ends.ensures c.in-At.is).0
