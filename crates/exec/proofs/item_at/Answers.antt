@@ -28,3 +28,7 @@ returns c =
 pub slice_bounds-result-start : goal.slice_bounds-result-start
 slice_bounds-result-start c =
     (nth-body 2 list_most c.args.list.now c.args.n (reads-some c.args.list.now c.requires) (sym c.nth.ensures ∙ c.in-Body.is)).ordered
+
+pub slice_bounds-result-end-2 : goal.slice_bounds-result-end-2
+slice_bounds-result-end-2 c =
+    (nth-body 2 list_most c.args.list.now c.args.n (reads-some c.args.list.now c.requires) (sym c.nth.ensures ∙ c.in-Body.is)).inside

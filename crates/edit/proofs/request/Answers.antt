@@ -1,0 +1,40 @@
+-- `edit::request` meets its contract: what was opened is edited. Assumes nothing.
+use mathlib.Core.Path.{◌≡◌, sym, ap, ◌∙◌}
+use Rattle.fault.specs.Answer.{given}
+use Rattle.wellformed.specs.Check.{answered}
+use Rattle.journal.specs.Journal.{Person, Authored, by}
+use Rattle.change.specs.Change.{Request}
+use Rattle.change.specs.Target.{request_by}
+use Rattle.edit.specs.Calls as calls
+use Rattle.edit.specs.Calls.{State, lent}
+use Rattle.edit.specs.Step.{passed}
+use Rattle.edit.proofs.Opening.{opened-fits}
+use Rattle.edit.proofs.Applying.{not_opened, was-opened}
+use borrow.Author.Rules.{rules}
+use Rattle.edit.proofs.request.Goals as goal
+use Rattle.edit.proofs.request.Goals.{After-check_lent, In-Sound, Start}
+
+abbrev start : After-check_lent → Start
+start c = c
+
+-- what is lent, and what is asked for
+abbrev held : Start → State
+held c = lent c.args.file.now c.args.size c.args.journal.now c.args.used c.args.standing
+
+abbrev asked : Start → Authored Request
+asked c = by (Person c.args.person) (request_by c.args.op c.args.group.now c.args.key.now c.args.text.now)
+
+opened : (c : In-Sound) → given tt ≡ passed (calls.opened (held (start c)))
+opened c = sym (ap answered c.in-Sound.is) ∙ c.check_lent.ensures
+
+pub returns-in-Refused : goal.returns-in-Refused
+returns-in-Refused c =
+    not_opened (held (start (goal.at.returns-in-Refused c).After-check_lent)) (asked (start (goal.at.returns-in-Refused c).After-check_lent)) (sym (ap answered c.in-Refused.is) ∙ c.check_lent.ensures)
+
+pub returns-in-Sound : goal.returns-in-Sound
+returns-in-Sound c =
+    let w = start (goal.at.returns-in-Sound c).After-check_lent in
+    was-opened (held w) (asked w) (opened (goal.at.returns-in-Sound c).In-Sound) c.carry_out.ensures
+
+pub carry_out-requires : goal.carry_out-requires
+carry_out-requires c = (opened-fits (held (start (goal.at.carry_out-requires c).After-check_lent)) (opened (goal.at.carry_out-requires c).In-Sound)).ready

@@ -1,0 +1,47 @@
+-- `edit::turn` meets its contract: the calls that led to each return say how far the definition goes. Assumes nothing.
+use native.Mathlib.Omega.{arith}
+use mathlib.Core.Path.{sym}
+use lib.Seq.{length-take-le}
+use borrow.Author.Rules.{rules}
+use Rattle.journal.specs.declared.Way.TheVariants.{Undo, Redo}
+use Rattle.edit.proofs.Opening.{ready-fits}
+use Rattle.edit.proofs.Turning.{way-steps, made-unready, made-unread, made_again}
+use Rattle.edit.proofs.turn.Goals as goal
+
+pub slice_bounds-edits-end : goal.slice_bounds-edits-end
+slice_bounds-edits-end c = sym (length-take-le _ _ (ready-fits _ (rw c.in-Sound.is at c.check_file.ensures)).numbers.used-fits)
+
+pub again-requires : goal.again-requires
+again-requires c =
+    let i = ready-fits _ (rw c.in-Sound.is at c.check_file.ensures) in
+    let w = rw c.in-Edit.is at c.next_on.ensures.1 in
+    ((i.ready.size_fits, i.ready.size-bound), (omega arith, omega arith, omega arith, omega arith))
+
+pub again-requires-in-Redo : goal.again-requires-in-Redo
+again-requires-in-Redo c =
+    let i = ready-fits _ (rw c.in-Sound.is at c.check_file.ensures) in
+    let w = rw c.in-Edit.is at c.next_on.ensures.1 in
+    ((i.ready.size_fits, i.ready.size-bound), (omega arith, omega arith, omega arith, omega arith))
+
+pub returns-in-Refused : goal.returns-in-Refused
+returns-in-Refused c = made-unready (way-steps c.args.way _) (rw c.in-Refused.is at c.check_file.ensures)
+
+pub returns-in-Damaged : goal.returns-in-Damaged
+returns-in-Damaged c = made-unread (way-steps c.args.way _) (rw c.in-Sound.is at c.check_file.ensures) (rw c.in-Damaged.is at c.next_on.ensures.0)
+
+pub returns-in-Nothing : goal.returns-in-Nothing
+returns-in-Nothing c = made-unread (way-steps c.args.way _) (rw c.in-Sound.is at c.check_file.ensures) (rw c.in-Nothing.is at c.next_on.ensures.0)
+
+pub returns-in-Undo : goal.returns-in-Undo
+returns-in-Undo c =
+    let t = c.in-Undo.is in
+    let q = rw (c.in-Edit.is, t) at c.next_on.ensures in
+    let e = c.again.ensures in
+    rw t (made_again (way-steps Undo _) (rw c.in-Sound.is at c.check_file.ensures) q.0 e.0 e.1)
+
+pub returns-in-Redo : goal.returns-in-Redo
+returns-in-Redo c =
+    let t = c.in-Redo.is in
+    let q = rw (c.in-Edit.is, t) at c.next_on.ensures in
+    let e = c.again-in-Redo.ensures in
+    rw t (made_again (way-steps Redo _) (rw c.in-Sound.is at c.check_file.ensures) q.0 e.0 e.1)
