@@ -5,8 +5,8 @@ use Rattle.edit.proofs.again.Goals as goal
 
 pub returns-in-Refused : goal.returns-in-Refused
 returns-in-Refused c =
-    let p = c.replay.ensures in record { answer = refused-too _ _ _ _ _ (rw c.in-Refused.is at p.0); file = p.1 }
+    let p = c.replay.ensures in record { answer = refused-too _ _ _ _ _ (rw c.in-Refused.is at p.answer); file = p.file }
 
 pub returns-in-Size : goal.returns-in-Size
 returns-in-Size c =
-    let p = c.replay.ensures in record { answer = numbers-too _ _ _ _ _ (rw c.in-Size.is at p.0); file = p.1 }
+    let p = c.replay.ensures in record { answer = numbers-too _ _ _ _ _ (rw c.in-Size.is at p.answer); file = p.file }

@@ -9,13 +9,13 @@ use Rattle.edit.proofs.apply.Goals as goal
 use Rattle.edit.proofs.apply.Goals.{After-make-arg-in-Entry-2-1, After-make-arg-in-Line-2-1, After-make-arg-in-Value-1}
 
 -- the places of a target lie in the file
-value-inside : (c : After-make-arg-in-Value-1) → let g = c.t.given.0 in (g.0 ≤ g.1.0) × (g.1.0 ≤ c.args.size)
+value-inside : (c : After-make-arg-in-Value-1) → (c.in-Value.from ≤ c.in-Value.to) × (c.in-Value.to ≤ c.args.size)
 value-inside c = rw c.in-Value.is at c.requires.3
 
 entry-inside : (c : After-make-arg-in-Entry-2-1) → c.in-Entry.at ≤ c.args.size
 entry-inside c = rw c.in-Entry.is at c.requires.3
 
-line-inside : (c : After-make-arg-in-Line-2-1) → let g = c.t3.given.0 in (g.0 ≤ g.1.0) × (g.1.0 ≤ c.args.size)
+line-inside : (c : After-make-arg-in-Line-2-1) → (c.in-Line.from ≤ c.in-Line.to) × (c.in-Line.to ≤ c.args.size)
 line-inside c = rw c.in-Line.is at c.requires.3
 
 pub returns-in-Value : goal.returns-in-Value

@@ -63,5 +63,5 @@ returns c =
     part-take c.args.place (c.args.place + c.args.old) c.args.size c.args.file.now (omega arith) in
     all_made (held (goal.at.returns c).Start) (edit (goal.at.returns c).Start) (omega (arith, l.0, l.1)) (omega (arith, l.0, l.1, n)) (omega (arith, l.0, l.1, n)) (omega (arith, l.1, n)) (omega (arith, l.1, n))
     (omega (arith, l.0, l.1, n, length-spliced (edit (goal.at.returns c).Start).what (content (held (goal.at.returns c).Start)) (omega (arith, l.0, l.1)))) (omega (arith, l.1, n))
-    (c.write.ensures.0 ∙ ap (λ (k : ℕ). buffer_with c.args.file.now c.args.size (replaced c.args.place k (edit (goal.at.returns c).Start).what.new (content (held (goal.at.returns c).Start)))) (sym l.1))
-    (c.write.ensures.1 ∙ ap (λ (x : List ℕ). over c.args.journal.now c.args.standing (record_bytes (edit_record (by (Person c.args.person) (record { place = c.args.place; old = x; new = (edit (goal.at.returns c).Start).what.new }))))) (sym o))
+    (c.write.ensures.file ∙ ap (λ (k : ℕ). buffer_with c.args.file.now c.args.size (replaced c.args.place k (edit (goal.at.returns c).Start).what.new (content (held (goal.at.returns c).Start)))) (sym l.1))
+    (c.write.ensures.journal ∙ ap (λ (x : List ℕ). over c.args.journal.now c.args.standing (record_bytes (edit_record (by (Person c.args.person) (record { place = c.args.place; old = x; new = (edit (goal.at.returns c).Start).what.new }))))) (sym o))

@@ -12,10 +12,7 @@ use Rattle.edit.proofs.Opening.{opened-fits}
 use Rattle.edit.proofs.Applying.{not_opened, was-opened}
 use borrow.Author.Rules.{rules}
 use Rattle.edit.proofs.request.Goals as goal
-use Rattle.edit.proofs.request.Goals.{After-check_lent, In-Sound, Start}
-
-abbrev start : After-check_lent → Start
-start c = c
+use Rattle.edit.proofs.request.Goals.{In-Sound, Start}
 
 -- what is lent, and what is asked for
 abbrev held : Start → State
@@ -24,17 +21,17 @@ held c = lent c.args.file.now c.args.size c.args.journal.now c.args.used c.args.
 abbrev asked : Start → Authored Request
 asked c = by (Person c.args.person) (request_by c.args.op c.args.group.now c.args.key.now c.args.text.now)
 
-opened : (c : In-Sound) → given tt ≡ passed (calls.opened (held (start c)))
+opened : (c : In-Sound) → given tt ≡ passed (calls.opened (lent c.args.file.now c.args.size c.args.journal.now c.args.used c.args.standing))
 opened c = sym (ap answered c.in-Sound.is) ∙ c.check_lent.ensures
 
 pub returns-in-Refused : goal.returns-in-Refused
 returns-in-Refused c =
-    not_opened (held (start (goal.at.returns-in-Refused c).After-check_lent)) (asked (start (goal.at.returns-in-Refused c).After-check_lent)) (sym (ap answered c.in-Refused.is) ∙ c.check_lent.ensures)
+    not_opened (held (goal.at.returns-in-Refused c).Start) (asked (goal.at.returns-in-Refused c).Start) (sym (ap answered c.in-Refused.is) ∙ c.check_lent.ensures)
 
 pub returns-in-Sound : goal.returns-in-Sound
 returns-in-Sound c =
-    let w = start (goal.at.returns-in-Sound c).After-check_lent in
+    let w = (goal.at.returns-in-Sound c).Start in
     was-opened (held w) (asked w) (opened (goal.at.returns-in-Sound c).In-Sound) c.carry_out.ensures
 
 pub carry_out-requires : goal.carry_out-requires
-carry_out-requires c = (opened-fits (held (start (goal.at.carry_out-requires c).After-check_lent)) (opened (goal.at.carry_out-requires c).In-Sound)).ready
+carry_out-requires c = (opened-fits (held (goal.at.carry_out-requires c).Start) (opened (goal.at.carry_out-requires c).In-Sound)).ready

@@ -15,13 +15,13 @@ pub again-requires : goal.again-requires
 again-requires c =
     let i = ready-fits _ (rw c.in-Sound.is at c.check_file.ensures) in
     let w = rw c.in-Edit.is at c.next_on.ensures.1 in
-    ((i.ready.size_fits, i.ready.size-bound), (omega arith, omega arith, omega arith, omega arith))
+    record { size_in_bounds = (i.ready.size_fits, i.ready.size-bound); from_le_to = (omega arith, omega arith, omega arith, omega arith) }
 
 pub again-requires-in-Redo : goal.again-requires-in-Redo
 again-requires-in-Redo c =
     let i = ready-fits _ (rw c.in-Sound.is at c.check_file.ensures) in
     let w = rw c.in-Edit.is at c.next_on.ensures.1 in
-    ((i.ready.size_fits, i.ready.size-bound), (omega arith, omega arith, omega arith, omega arith))
+    record { size_in_bounds = (i.ready.size_fits, i.ready.size-bound); from_le_to = (omega arith, omega arith, omega arith, omega arith) }
 
 pub returns-in-Refused : goal.returns-in-Refused
 returns-in-Refused c = made-unready (way-steps c.args.way _) (rw c.in-Refused.is at c.check_file.ensures)
@@ -37,11 +37,11 @@ returns-in-Undo c =
     let t = c.in-Undo.is in
     let q = rw (c.in-Edit.is, t) at c.next_on.ensures in
     let e = c.again.ensures in
-    rw t (made_again (way-steps Undo _) (rw c.in-Sound.is at c.check_file.ensures) q.0 e.0 e.1)
+    rw t (made_again (way-steps Undo _) (rw c.in-Sound.is at c.check_file.ensures) q.0 e.answer e.file)
 
 pub returns-in-Redo : goal.returns-in-Redo
 returns-in-Redo c =
     let t = c.in-Redo.is in
     let q = rw (c.in-Edit.is, t) at c.next_on.ensures in
     let e = c.again-in-Redo.ensures in
-    rw t (made_again (way-steps Redo _) (rw c.in-Sound.is at c.check_file.ensures) q.0 e.0 e.1)
+    rw t (made_again (way-steps Redo _) (rw c.in-Sound.is at c.check_file.ensures) q.0 e.answer e.file)

@@ -1,0 +1,62 @@
+-- `actions` meets its contract: the calls that led to each return say which answer the definition has. Assumes nothing.
+use mathlib.Core.Path.{◌≡◌, sym, ap, ◌∙◌}
+use mathlib.Core.Bool.{true}
+use Rattle.fault.specs.Answer.{given}
+use Rattle.fault.proofs.Answers.{then-given, then-refused}
+use Rattle.text.specs.Element.{elements_of}
+use Rattle.text.specs.Step.{room_of, spend_all}
+use Rattle.text.specs.declared.Left.TheVariants.{Bytes}
+use Rattle.text.proofs.OutputLaws.{leaves-refused}
+use Rattle.line.specs.Form.{locale_form}
+use Rattle.rows.specs.Title.{desktop_entry}
+use Rattle.wellformed.specs.Check.{check}
+use Rattle.wellformed.specs.Check as pass
+use Rattle.wellformed.proofs.Accepts.{check-good}
+use Rattle.actions.specs.Actions as spec
+use Rattle.actions.proofs.Answering.{list-unsound, list-locale, list-wrong, list_read}
+use borrow.Author.Rules.{rules}
+use Rattle.actions.proofs.actions.Goals as goal
+use Rattle.actions.proofs.actions.Goals.{In-Sound, Then-is_locale}
+
+abbrev start : In-Sound → goal.Start
+start c = c
+
+-- the file is sound
+checks : (c : In-Sound) → given tt ≡ check (start c).args.file.now
+checks c = sym (ap pass.answered c.in-Sound.is) ∙ c.check.ensures
+
+-- the locale has the form
+form : (c : Then-is_locale) → locale_form (start c).args.locale.now ≡ true
+form c = sym c.is_locale.ensures ∙ c.if-is_locale.true
+
+pub value-raw-requires : goal.value-raw-requires
+value-raw-requires c = (check-good desktop_entry (start (goal.at.value-raw-requires c).In-Sound).args.file.now (checks (goal.at.value-raw-requires c).In-Sound)).0
+
+pub write_all-requires : goal.write_all-requires
+write_all-requires c =
+    ((check-good desktop_entry (start (goal.at.write_all-requires c).In-Sound).args.file.now (checks (goal.at.write_all-requires c).In-Sound)).0, form (goal.at.write_all-requires c).Then-is_locale)
+
+pub returns-in-Wrong : goal.returns-in-Wrong
+returns-in-Wrong c =
+    let a = (start (goal.at.returns-in-Wrong c).In-Sound).args in
+    leaves-refused (spec.actions a.file.now a.locale.now) _ a.out.now
+    (list-wrong a.file.now a.locale.now (checks (goal.at.returns-in-Wrong c).In-Sound) (form (goal.at.returns-in-Wrong c).Then-is_locale) c.value-raw.ensures
+    (then-refused (spend_all (Bytes 0)) (elements_of c.value-raw.result.now) (sym (ap room_of c.in-Wrong.is) ∙ c.room_after.ensures)))
+
+pub returns-in-Left : goal.returns-in-Left
+returns-in-Left c =
+    let a = (start (goal.at.returns-in-Left c).In-Sound).args in
+    let ids = then-given (spend_all (Bytes 0)) (elements_of c.value-raw.result.now) (sym (ap room_of c.in-Left.is) ∙ c.room_after.ensures) in
+    rw (list_read a.file.now a.locale.now (checks (goal.at.returns-in-Left c).In-Sound) (form (goal.at.returns-in-Left c).Then-is_locale) c.value-raw.ensures ids.1) c.write_all.ensures
+
+pub returns-in-Refused : goal.returns-in-Refused
+returns-in-Refused c =
+    let a = c.args in
+    leaves-refused (spec.actions a.file.now a.locale.now) _ a.out.now
+    (list-unsound a.file.now a.locale.now (sym (ap pass.answered c.in-Refused.is) ∙ c.check.ensures))
+
+pub returns-else-is_locale : goal.returns-else-is_locale
+returns-else-is_locale c =
+    let a = (start (goal.at.returns-else-is_locale c).In-Sound).args in
+    leaves-refused (spec.actions a.file.now a.locale.now) _ a.out.now
+    (list-locale a.file.now a.locale.now (checks (goal.at.returns-else-is_locale c).In-Sound) (sym c.is_locale.ensures ∙ c.if-is_locale.false))

@@ -1,0 +1,50 @@
+-- `listed::is_element` meets its contract: the elements from `i` on have the answer. Assumes nothing.
+use native.Mathlib.Omega.{arith}
+use mathlib.Core.Path.{◌≡◌, refl, sym, ◌∙◌}
+use Prim.Native.Nat.{◌-◌}
+use lib.ListN.{length, drop}
+use Rattle.base.specs.Lists.{same, any}
+use Rattle.text.proofs.Elements.{element-end, split}
+use Rattle.actions.specs.Step.{elements}
+use Rattle.actions.proofs.Elements.{elements-done}
+use borrow.Author.Rules.{rules}
+use Rattle.actions.proofs.listed.is_element.Goals as goal
+
+pub slice_bounds-same-count : goal.slice_bounds-same-count
+slice_bounds-same-count c =
+    (element-end c.args.raw.now c.loop-i.i (search rules) c.bare_end-e.ensures).0
+
+pub slice_bounds-same-end : goal.slice_bounds-same-end
+slice_bounds-same-end c =
+    (element-end c.args.raw.now c.loop-i.i (search rules) c.bare_end-e.ensures).1
+
+pub returns-then-same : goal.returns-then-same
+unfolding any
+returns-then-same c =
+    let a = c.args in
+    rw (split a.raw.now c.loop-i.i (search rules) c.bare_end-e.ensures, sym c.same.ensures ∙ c.if-same.true) at c.loop-i.invariant
+
+pub overflow_add-i : goal.overflow_add-i
+overflow_add-i c = omega (arith, ((element-end c.args.raw.now c.loop-i.i (search rules) c.bare_end-e.ensures).1))
+
+pub loop-i-smaller : goal.loop-i-smaller
+loop-i-smaller c = omega (arith, ((element-end c.args.raw.now c.loop-i.i (search rules) c.bare_end-e.ensures).0), ((element-end c.args.raw.now c.loop-i.i (search rules) c.bare_end-e.ensures).1))
+
+pub loop-i-preserved : goal.loop-i-preserved
+unfolding any
+loop-i-preserved c =
+    let a = c.args in
+    rw (split a.raw.now c.loop-i.i (search rules) c.bare_end-e.ensures, sym c.same.ensures ∙ c.if-same.false) at c.loop-i.invariant
+
+pub returns : goal.returns
+unfolding any
+returns c =
+    let a = c.args in
+    rw (elements-done a.raw.now c.loop-i.i c.loop-i-test.false) at c.loop-i.invariant
+
+pub loop-i-init : goal.loop-i-init
+loop-i-init c = refl
+
+pub slice_bounds-same-start : goal.slice_bounds-same-start
+slice_bounds-same-start c =
+    (element-end c.args.raw.now c.loop-i.i (search rules) c.bare_end-e.ensures).0
