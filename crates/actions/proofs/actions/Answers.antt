@@ -18,34 +18,31 @@ use borrow.Author.Rules.{rules}
 use Rattle.actions.proofs.actions.Goals as goal
 use Rattle.actions.proofs.actions.Goals.{In-Sound, Then-is_locale}
 
-abbrev start : In-Sound → goal.Start
-start c = c
-
 -- the file is sound
-checks : (c : In-Sound) → given tt ≡ check (start c).args.file.now
+checks : (c : In-Sound) → given tt ≡ check c.args.file.now
 checks c = sym (ap pass.answered c.in-Sound.is) ∙ c.check.ensures
 
 -- the locale has the form
-form : (c : Then-is_locale) → locale_form (start c).args.locale.now ≡ true
+form : (c : Then-is_locale) → locale_form c.args.locale.now ≡ true
 form c = sym c.is_locale.ensures ∙ c.if-is_locale.true
 
 pub value-raw-requires : goal.value-raw-requires
-value-raw-requires c = (check-good desktop_entry (start (goal.at.value-raw-requires c).In-Sound).args.file.now (checks (goal.at.value-raw-requires c).In-Sound)).0
+value-raw-requires c = (check-good desktop_entry c.args.file.now (checks (goal.at.value-raw-requires c).In-Sound)).0
 
 pub write_all-requires : goal.write_all-requires
 write_all-requires c =
-    ((check-good desktop_entry (start (goal.at.write_all-requires c).In-Sound).args.file.now (checks (goal.at.write_all-requires c).In-Sound)).0, form (goal.at.write_all-requires c).Then-is_locale)
+    ((check-good desktop_entry c.args.file.now (checks (goal.at.write_all-requires c).In-Sound)).0, form (goal.at.write_all-requires c).Then-is_locale)
 
 pub returns-in-Wrong : goal.returns-in-Wrong
 returns-in-Wrong c =
-    let a = (start (goal.at.returns-in-Wrong c).In-Sound).args in
+    let a = c.args in
     leaves-refused (spec.actions a.file.now a.locale.now) _ a.out.now
     (list-wrong a.file.now a.locale.now (checks (goal.at.returns-in-Wrong c).In-Sound) (form (goal.at.returns-in-Wrong c).Then-is_locale) c.value-raw.ensures
     (then-refused (spend_all (Bytes 0)) (elements_of c.value-raw.result.now) (sym (ap room_of c.in-Wrong.is) ∙ c.room_after.ensures)))
 
 pub returns-in-Left : goal.returns-in-Left
 returns-in-Left c =
-    let a = (start (goal.at.returns-in-Left c).In-Sound).args in
+    let a = c.args in
     let ids = then-given (spend_all (Bytes 0)) (elements_of c.value-raw.result.now) (sym (ap room_of c.in-Left.is) ∙ c.room_after.ensures) in
     rw (list_read a.file.now a.locale.now (checks (goal.at.returns-in-Left c).In-Sound) (form (goal.at.returns-in-Left c).Then-is_locale) c.value-raw.ensures ids.1) c.write_all.ensures
 
@@ -57,6 +54,6 @@ returns-in-Refused c =
 
 pub returns-else-is_locale : goal.returns-else-is_locale
 returns-else-is_locale c =
-    let a = (start (goal.at.returns-else-is_locale c).In-Sound).args in
+    let a = c.args in
     leaves-refused (spec.actions a.file.now a.locale.now) _ a.out.now
     (list-locale a.file.now a.locale.now (checks (goal.at.returns-else-is_locale c).In-Sound) (sym c.is_locale.ensures ∙ c.if-is_locale.false))

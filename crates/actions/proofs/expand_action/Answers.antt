@@ -18,16 +18,13 @@ use Rattle.actions.proofs.Groups.{group-none, group-some}
 use Rattle.actions.proofs.Answering.{action-unasked, action-wrong, action-other, action-listed}
 use borrow.Author.Rules.{rules}
 use Rattle.actions.proofs.expand_action.Goals as goal
-use Rattle.actions.proofs.expand_action.Goals.{After-ask, In-Items}
-
-abbrev start : After-ask → goal.Start
-start c = c
+use Rattle.actions.proofs.expand_action.Goals.{In-Items}
 
 -- what was asked is granted
-granted : (c : In-Items) → let a = (start c).args in
+granted : (c : In-Items) → let a = c.args in
     Granted a.file.now a.locale.now a.location.now a.list.now c.in-Items.count
 granted c =
-    let a = (start c).args in
+    let a = c.args in
     asked-given a.file.now a.locale.now a.location.now a.list.now (sym (ap asked_as c.in-Items.is) ∙ c.ask.ensures)
 
 pub value-raw-requires : goal.value-raw-requires
@@ -44,7 +41,7 @@ expand_group-requires c =
 
 pub returns-then-group-eq0 : goal.returns-then-group-eq0
 returns-then-group-eq0 c =
-    let a = (start (goal.at.returns-then-group-eq0 c).After-ask).args in
+    let a = c.args in
     let ids = then-given (spend_all (Bytes 0)) (elements_of c.value-raw.result.now) (sym (ap room_of c.in-Left.is) ∙ c.room_after.ensures) in
     let n = group-none (any (same a.action.now) (elements c.value-raw.result.now) && spec.is_action (read_rows a.file.now) a.action.now) a.action.now c.group_asked-group.ensures c.if-group-eq0.true in
     leaves-refused (spec.expand_action a.file.now a.action.now a.locale.now a.location.now a.list.now a.run) _ a.out.now
@@ -52,20 +49,20 @@ returns-then-group-eq0 c =
 
 pub returns-in-Refused : goal.returns-in-Refused
 returns-in-Refused c =
-    let a = (start (goal.at.returns-in-Refused c).After-ask).args in
+    let a = c.args in
     leaves-refused (spec.expand_action a.file.now a.action.now a.locale.now a.location.now a.list.now a.run) _ a.out.now
     (action-unasked a.file.now a.action.now a.locale.now a.location.now a.list.now a.run (sym (ap asked_as c.in-Refused.is) ∙ c.ask.ensures))
 
 pub returns-in-Wrong : goal.returns-in-Wrong
 returns-in-Wrong c =
-    let a = (start (goal.at.returns-in-Wrong c).After-ask).args in
+    let a = c.args in
     leaves-refused (spec.expand_action a.file.now a.action.now a.locale.now a.location.now a.list.now a.run) _ a.out.now
     (action-wrong a.file.now a.action.now a.locale.now a.location.now a.list.now a.run (granted (goal.at.returns-in-Wrong c).In-Items) c.value-raw.ensures
     (then-refused (spend_all (Bytes 0)) (elements_of c.value-raw.result.now) (sym (ap room_of c.in-Wrong.is) ∙ c.room_after.ensures)))
 
 pub returns-else-group-eq0 : goal.returns-else-group-eq0
 returns-else-group-eq0 c =
-    let a = (start (goal.at.returns-else-group-eq0 c).After-ask).args in
+    let a = c.args in
     let ids = then-given (spend_all (Bytes 0)) (elements_of c.value-raw.result.now) (sym (ap room_of c.in-Left.is) ∙ c.room_after.ensures) in
     let y = group-some (any (same a.action.now) (elements c.value-raw.result.now) && spec.is_action (read_rows a.file.now) a.action.now) a.action.now c.group_asked-group.ensures c.if-group-eq0.false in
     rw (action-listed a.file.now a.action.now a.locale.now a.location.now a.list.now a.run (granted (goal.at.returns-else-group-eq0 c).In-Items) c.value-raw.ensures ids.1 y.0, ← y.1) c.expand_group.ensures

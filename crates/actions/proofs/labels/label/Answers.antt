@@ -19,8 +19,8 @@ returns-in_default c =
 pub slice_bounds-result-count : goal.slice_bounds-result-count
 slice_bounds-result-count c = (chosen-within _ _ _ _ c.chosen_ends.ensures c.in-At.is).0
 
-pub slice_bounds-result-end : goal.slice_bounds-result-end
-slice_bounds-result-end c = (chosen-within _ _ _ _ c.chosen_ends.ensures c.in-At.is).1
+pub slice_bounds-result-end-2 : goal.slice_bounds-result-end-2
+slice_bounds-result-end-2 c = (chosen-within _ _ _ _ c.chosen_ends.ensures c.in-At.is).1
 
 pub returns : goal.returns
 returns c =

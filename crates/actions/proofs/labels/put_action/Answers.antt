@@ -30,21 +30,22 @@ label_is : (c : After-label) → let a = c.args in
     c.label.result.now ≡ label_value (read_rows a.file.now) a.locale.now (action_group (part a.i a.e a.raw.now))
 label_is c =
     let a = c.args in
-    c.label.ensures ∙ ap (label_value (read_rows a.file.now) a.locale.now) (group-is c).1
+    c.label.ensures
+    ∙ ap (label_value (read_rows a.file.now) a.locale.now) (group-some (is_listed_at (read_rows a.file.now) a.raw.now a.i a.e) (part a.i a.e a.raw.now) c.group_at-group.ensures c.if-group-eq0.false).1
 
 pub put-next-requires : goal.put-next-requires
 put-next-requires c =
     let a = c.args in
     id-fits (read_rows a.file.now) a.locale.now a.raw.now a.i a.e (group-is (goal.at.put-next-requires c).Else-group-eq0).0 c.requires.4 a.out.now a.at c.requires.5
 
-pub put-next-requires : goal.put-requires
+pub put-requires : goal.put-requires
 unfolding read_text
-put-next-requires c =
+put-requires c =
     let a = c.args in
     let rs = read_rows a.file.now in
-    rw (label_is (goal.at.put-next-requires c).After-label) (
-      label-sound rs a.locale.now a.raw.now a.i a.e (group-is (goal.at.put-next-requires c).Else-group-eq0).0 c.requires.4,
-      label-fits rs a.locale.now a.raw.now a.i a.e (group-is (goal.at.put-next-requires c).Else-group-eq0).0 c.requires.4 a.out.now a.at c.requires.5 c.put-next.ensures,
+    rw (label_is (goal.at.put-requires c).After-label) (
+      label-sound rs a.locale.now a.raw.now a.i a.e (group-is (goal.at.put-requires c).Else-group-eq0).0 c.requires.4,
+      label-fits rs a.locale.now a.raw.now a.i a.e (group-is (goal.at.put-requires c).Else-group-eq0).0 c.requires.4 a.out.now a.at c.requires.5 c.put-next.ensures,
     )
 
 pub returns : goal.returns

@@ -17,8 +17,7 @@ returns-in_default c =
     rw (no_header (read_rows a.file.now) a.id.now (told-nothing (find_row (read_rows a.file.now) (Group (action_group a.id.now))) (sym c.find_group.ensures ∙ c.in_default.is)))
 
 -- where the name stands in the file
-name : (c : In-Row) → let a = c.args in
-    let v = c.start.given.0 in Titled a.file.now (action_group a.id.now) v.1.0 v.1.1.0
+name : (c : In-Row) → Titled c.args.file.now (action_group c.args.id.now) c.in-Row.start c.in-Row.end
 name c =
     let a = c.args in
     titled a.file.now (action_group a.id.now) (sym c.find_group.ensures ∙ c.in-Row.is)

@@ -20,8 +20,8 @@ slice_bounds-result-count c =
     let a = c.args in
     (key-value a.file.now (Key desktop_entry (ascii "Actions")) (sym c.find_key.ensures ∙ c.in-Row.is)).ordered
 
-pub slice_bounds-result-end : goal.slice_bounds-result-end
-slice_bounds-result-end c =
+pub slice_bounds-result-end-2 : goal.slice_bounds-result-end-2
+slice_bounds-result-end-2 c =
     let a = c.args in
     (key-value a.file.now (Key desktop_entry (ascii "Actions")) (sym c.find_key.ensures ∙ c.in-Row.is)).inside
 

@@ -1,0 +1,33 @@
+-- `batch::batch` meets its contract: what is asked first decides whether the requests are run. Assumes nothing.
+use mathlib.Core.Path.{◌≡◌, sym, ap, ◌∙◌}
+use Rattle.fault.specs.Answer.{given}
+use Rattle.wellformed.specs.Check as check
+use Rattle.journal.specs.Journal.{Person}
+use Rattle.edit.specs.Calls as calls
+use Rattle.edit.specs.Calls.{State, lent}
+use Rattle.edit.specs.Step.{passed}
+use Rattle.batch.proofs.Running.{not_opened, not-read}
+use borrow.Author.Rules.{rules}
+use Rattle.batch.proofs.batch.Goals as goal
+use Rattle.batch.proofs.batch.Goals.{After-check_lent, In-Sound, Start}
+
+abbrev start : After-check_lent → Start
+start c = c
+
+-- what is lent
+abbrev held : Start → State
+held c = lent c.args.file.now c.args.size c.args.journal.now c.args.used c.args.standing
+
+opened : (c : In-Sound) → given tt ≡ passed (calls.opened (held (start c)))
+opened c = sym (ap check.answered c.in-Sound.is) ∙ c.check_lent.ensures
+
+pub run-requires : goal.run-requires
+run-requires c = (opened (goal.at.run-requires c).In-Sound, sym c.sound.ensures ∙ c.if-sound.true)
+
+pub returns-in-Refused : goal.returns-in-Refused
+returns-in-Refused c =
+    record { is = not_opened (held (start (goal.at.returns-in-Refused c).After-check_lent)) (Person _) _ (sym (ap check.answered c.in-Refused.is) ∙ c.check_lent.ensures) }
+
+pub returns-else-sound : goal.returns-else-sound
+returns-else-sound c =
+    record { is = not-read (held (start (goal.at.returns-else-sound c).After-check_lent)) (Person _) _ (opened (goal.at.returns-else-sound c).In-Sound) (sym c.sound.ensures ∙ c.if-sound.false) }

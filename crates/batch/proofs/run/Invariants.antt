@@ -1,0 +1,21 @@
+-- `batch::run` meets its contract: the requests before the place are done, and those from there on decide. Assumes nothing.
+use native.Mathlib.Omega.{arith}
+use borrow.Author.Rules.{rules}
+use mathlib.Core.Path.{◌≡◌, refl, sym, ◌∙◌}
+use Prim.Native.Nat.{ℕ, ◌-◌}
+use mathlib.Core.List.{List}
+use lib.ListN.{length}
+use Rattle.record.proofs.Place.{Stands, front-damaged, front-record}
+use Rattle.journal.specs.Journal.{Person}
+use Rattle.edit.specs.Calls.{lent}
+use Rattle.edit.specs.Step.{Ready}
+use Rattle.edit.proofs.Opening.{opened-fits}
+use Rattle.batch.proofs.Running.{Running, run-begin, run-damaged, run-done, run-stopped, run-next}
+use Rattle.batch.proofs.run.Given as goal
+
+abbrev pub invariant-loop-at : goal.invariant-loop-at
+invariant-loop-at l = 
+    Running (lent l.initial.file l.size l.initial.journal l.used l.standing) (Person l.person) l.list l.at l.done (lent l.file l.length l.journal l.u l.n) × (length l.file ≡ length l.initial.file) × (length l.journal ≡ length l.initial.journal)
+
+abbrev pub decreases-loop-at : goal.decreases-loop-at
+decreases-loop-at l = length l.list - l.at
