@@ -9,25 +9,22 @@ use Rattle.edit.specs.Step.{passed}
 use Rattle.batch.proofs.Running.{not_opened, not-read}
 use borrow.Author.Rules.{rules}
 use Rattle.batch.proofs.batch.Goals as goal
-use Rattle.batch.proofs.batch.Goals.{After-check_lent, In-Sound, Start}
-
-abbrev start : After-check_lent → Start
-start c = c
+use Rattle.batch.proofs.batch.Goals.{In-Sound, Start}
 
 -- what is lent
 abbrev held : Start → State
 held c = lent c.args.file.now c.args.size c.args.journal.now c.args.used c.args.standing
 
-opened : (c : In-Sound) → given tt ≡ passed (calls.opened (held (start c)))
+opened : (c : In-Sound) → given tt ≡ passed (calls.opened (lent c.args.file.now c.args.size c.args.journal.now c.args.used c.args.standing))
 opened c = sym (ap check.answered c.in-Sound.is) ∙ c.check_lent.ensures
 
 pub run-requires : goal.run-requires
-run-requires c = (opened (goal.at.run-requires c).In-Sound, sym c.sound.ensures ∙ c.if-sound.true)
+run-requires c = record { tt_value = opened (goal.at.run-requires c).In-Sound; list_value = sym c.sound.ensures ∙ c.if-sound.true }
 
 pub returns-in-Refused : goal.returns-in-Refused
 returns-in-Refused c =
-    record { is = not_opened (held (start (goal.at.returns-in-Refused c).After-check_lent)) (Person _) _ (sym (ap check.answered c.in-Refused.is) ∙ c.check_lent.ensures) }
+    record { is = not_opened (held (goal.at.returns-in-Refused c).Start) (Person _) _ (sym (ap check.answered c.in-Refused.is) ∙ c.check_lent.ensures) }
 
 pub returns-else-sound : goal.returns-else-sound
 returns-else-sound c =
-    record { is = not-read (held (start (goal.at.returns-else-sound c).After-check_lent)) (Person _) _ (opened (goal.at.returns-else-sound c).In-Sound) (sym c.sound.ensures ∙ c.if-sound.false) }
+    record { is = not-read (held (goal.at.returns-else-sound c).Start) (Person _) _ (opened (goal.at.returns-else-sound c).In-Sound) (sym c.sound.ensures ∙ c.if-sound.false) }

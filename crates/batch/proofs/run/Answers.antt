@@ -12,39 +12,26 @@ use Rattle.edit.specs.Step.{Ready}
 use Rattle.edit.proofs.Opening.{opened-fits}
 use Rattle.batch.proofs.Running.{Running, run-begin, run-damaged, run-done, run-stopped, run-next}
 use Rattle.batch.proofs.run.Goals as goal
-use Rattle.batch.proofs.run.Goals.{At-loop-at, In-Record}
-
-abbrev start : At-loop-at → goal.Start
-start c = c
-
-abbrev list_of : At-loop-at → List ℕ
-list_of c = (start c).args.list.now
-
-abbrev loop-of : In-Record → At-loop-at
-loop-of c = c
+use Rattle.batch.proofs.run.Goals.{In-Record}
 
 pub loop-at-init : goal.loop-at-init
-loop-at-init c = (run-begin (lent c.args.file.now c.args.size c.args.journal.now c.args.used c.args.standing) (Person c.args.person) c.args.list.now c.requires.0 c.requires.1, refl, refl)
+loop-at-init c = (run-begin (lent c.args.file.now c.args.size c.args.journal.now c.args.used c.args.standing) (Person c.args.person) c.args.list.now c.requires.tt_value c.requires.list_value, refl, refl)
 
 -- the record that stands at the place
-stands : (c : In-Record) → Stands (list_of (loop-of c)) (loop-of c).loop-at.at c.in-Record.kind c.in-Record.end
+stands : (c : In-Record) → Stands c.args.list.now c.loop-at.at c.in-Record.kind c.in-Record.end
 stands c = front-record _ _ (sym c.read.ensures ∙ c.in-Record.is)
 
 pub returns-in_default : goal.returns-in_default
 returns-in_default c =
     run-damaged c.loop-at.invariant.0 c.loop-at-test.true (front-damaged _ _ (sym c.read.ensures ∙ c.in_default.is))
 
--- file and journal open
-ready : (c : At-loop-at) → Ready c.loop-at.file c.loop-at.length c.loop-at.n
-ready c = (opened-fits (lent c.loop-at.file c.loop-at.length c.loop-at.journal c.loop-at.u c.loop-at.n) (rw c.loop-at.invariant.0.opens)).ready
-
 pub returns-in-Refused : goal.returns-in-Refused
 returns-in-Refused c =
-    record { is = run-stopped (loop-of (goal.at.returns-in-Refused c).In-Record).loop-at.invariant.0 (stands (goal.at.returns-in-Refused c).In-Record) (rw c.in-Refused.is at c.make.ensures) }
+    record { is = run-stopped c.loop-at.invariant.0 (stands (goal.at.returns-in-Refused c).In-Record) (rw c.in-Refused.is at c.make.ensures) }
 
 pub loop-at-preserved : goal.loop-at-preserved
 loop-at-preserved c =
-    (run-next (loop-of (goal.at.loop-at-preserved c).In-Record).loop-at.invariant.0 (stands (goal.at.loop-at-preserved c).In-Record) (search rules) (rw c.in-Done.is at c.make.ensures), search rules, search rules)
+    (run-next c.loop-at.invariant.0 (stands (goal.at.loop-at-preserved c).In-Record) (search rules) (rw c.in-Done.is at c.make.ensures), search rules, search rules)
 
 pub returns : goal.returns
 returns c = record { is = run-done c.loop-at.invariant.0 c.loop-at-test.false }
@@ -68,10 +55,10 @@ pub slice_bounds-make-end : goal.slice_bounds-make-end
 slice_bounds-make-end c = (stands (goal.at.slice_bounds-make-end c).In-Record).inside
 
 pub make-requires : goal.make-requires
-make-requires c = ready (loop-of (goal.at.make-requires c).In-Record)
+make-requires c = (opened-fits (lent c.loop-at.file c.loop-at.length c.loop-at.journal c.loop-at.u c.loop-at.n) (rw c.loop-at.invariant.0.opens)).ready
 
 pub overflow_add-done : goal.overflow_add-done
-overflow_add-done c = let r = stands (goal.at.overflow_add-done c).In-Record in let w = (loop-of (goal.at.overflow_add-done c).In-Record).loop-at.invariant.0 in omega arith
+overflow_add-done c = let r = stands (goal.at.overflow_add-done c).In-Record in let w = c.loop-at.invariant.0 in omega arith
 
 pub loop-at-smaller : goal.loop-at-smaller
 loop-at-smaller c = let r = stands (goal.at.loop-at-smaller c).In-Record in omega arith
