@@ -1,0 +1,6 @@
+-- `tell_checked` meets its contract: a refusal is told by its number, place and byte. Assumes nothing.
+use borrow.Author.Rules.{rules}
+use Rattle.abi.proofs.tell_checked.Goals as goal
+
+pub returns-in-Refused : goal.returns-in-Refused
+returns-in-Refused c = rw c.in-Refused.is (record { code_is = c.refuse.ensures.0; place_is = c.refuse.ensures.1; byte-is = c.refuse.ensures.2 })

@@ -1,0 +1,7 @@
+-- `tell_named` meets its contract: a refusal is told by its number, place and byte, and writes no number. Assumes nothing.
+use mathlib.Core.Path.{refl}
+use borrow.Author.Rules.{rules}
+use Rattle.abi.proofs.tell_named.Goals as goal
+
+pub returns-in-Refused : goal.returns-in-Refused
+returns-in-Refused c = rw c.in-Refused.is (record { returned = record { code_is = c.refuse.ensures.0; place_is = c.refuse.ensures.1; byte-is = c.refuse.ensures.2 }; number_is = refl })
