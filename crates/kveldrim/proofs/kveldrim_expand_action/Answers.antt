@@ -1,0 +1,7 @@
+-- `kveldrim_expand_action` meets its contract: it is the call. Assumes nothing.
+use Rattle.abi.proofs.Telling.{same_number}
+use borrow.Author.Rules.{rules}
+use Rattle.kveldrim.proofs.kveldrim_expand_action.Goals as goal
+
+pub returns : goal.returns
+returns c = record { told = search same_number; output = search rules }
