@@ -20,9 +20,6 @@ pub loop-p-preserved : goal.loop-p-preserved
 loop-p-preserved c =
     ending-other c.loop-p.invariant (search rules) c.line_end-e.ensures c.in_group-inside.ensures (rw (← c.is_of_group.ensures) c.if-is_of_group.false)
 
--- ANON 4/19 other between start and slice_bounds-l-end, of loop-p-init slice_bounds-l-count slice_bounds-l-start
--- | ending-start _ _ c.same-inside.ensures
-
 pub behind-t-requires : goal.behind-t-requires
 behind-t-requires c =
     end-le c.args.file.now {p = c.loop-p.p} (search rules) c.line_end-e.ensures

@@ -19,9 +19,6 @@ pub loop-p-preserved : goal.loop-p-preserved
 loop-p-preserved c =
     lone-next c.loop-p.invariant (search rules) c.line_end-e.ensures c.in_group-inside.ensures (rw (← c.is_postfixed.ensures) c.if-is_postfixed.false)
 
--- ANON 4/16 other between start and slice_bounds-l-end, of loop-p-init slice_bounds-l-count slice_bounds-l-start
--- | lone-start _ _ _ c.same-inside.ensures
-
 pub overflow_add-p : goal.overflow_add-p
 overflow_add-p c = omega (arith, (end-le c.args.file.now {p = c.loop-p.p} (search rules) c.line_end-e.ensures))
 

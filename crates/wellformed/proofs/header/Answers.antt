@@ -23,6 +23,3 @@ pub returns : goal.returns
 unfolding title_after
 returns c =
     (rw (c.if-first.false, c.requires.3 (sym c.mark-there.ensures.0 ∙ c.if-there.false)) refl, c.mark-there.ensures.1)
-
--- ANON 5/14 other between returns-then-first and returns-then-there, of slice_bounds-find_group-end shape_of-marks-then-there
--- | sym (length-take-le c.args.p c.args.file.now c.requires.0)

@@ -14,7 +14,7 @@ use Rattle.wellformed.proofs.Plain.{Held, held_start, held_next, held-end}
 use Rattle.wellformed.proofs.scan.Given as goal
 
 abbrev pub invariant-loop-p : goal.invariant-loop-p
-invariant-loop-p l = 
+invariant-loop-p l =
     Checking l.leading l.file l.marks l.p l.n l.s.tag (bytes l.file l.s.group) × Held l.file l.p l.s × (length l.marks ≡ length l.initial.marks)
 
 abbrev pub decreases-loop-p : goal.decreases-loop-p
