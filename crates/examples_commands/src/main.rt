@@ -4,11 +4,13 @@
 mod commands; // commands.rt: the expansion of Exec
 mod submenus; // submenus.rt: the actions of an application
 
-fn main() {
+use std::io;
+
+fn main(rt: HostRuntime) -> io::Result<()> {
     // File T of 01.
     let t = b"[Desktop Entry]\nType=Application\nName=Lesen\nName[fr]=Lire\nExec=view %F\n";
-    commands::expansions(t);
-    commands::commands_read();
-    submenus::actions_of_a_file();
-    submenus::refused_actions();
+    commands::expansions(&rt, t)?;
+    commands::commands_read(&rt)?;
+    submenus::actions_of_a_file(&rt)?;
+    submenus::refused_actions(&rt)
 }

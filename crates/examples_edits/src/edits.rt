@@ -4,11 +4,20 @@ ghost use Rattle.std.specs.Prelude.{◌≤◌, length};
 
 use edit::Edited;
 use report::{quote, say, say_number, tell_edited, tell_forgot, tell_named};
+use std::io;
 
-fn set_name_into(size: usize, file: &mut [u8], journal: &mut [u8]) {
-    say(b"set \"Name\" of T to \"Les\" by 258 with a journal of ");
-    say_number(journal.len());
-    say(b" bytes");
+fn set_name_into(
+    rt: &impl Print,
+    size: usize,
+    file: &mut [u8],
+    journal: &mut [u8],
+) -> io::Result<()> {
+    say(
+        rt,
+        b"set \"Name\" of T to \"Les\" by 258 with a journal of ",
+    )?;
+    say_number(rt, journal.len())?;
+    say(rt, b" bytes")?;
     let e = edit::set(
         file,
         size,
@@ -20,36 +29,42 @@ fn set_name_into(size: usize, file: &mut [u8], journal: &mut [u8]) {
         b"Name",
         b"Les",
     );
-    tell_edited(e, file, journal);
+    tell_edited(rt, e, file, journal)
 }
 
-fn set_name(t: &[u8], room: usize)
+fn set_name(rt: &impl Print, t: &[u8], room: usize) -> io::Result<()>
     requires { (length t.now ≤ 72) × (room ≤ 29) }
 {
     let mut file = [b'.'; 72];
     let mut journal = [b'.'; 29];
     splice::write(&mut file, 0, t);
-    set_name_into(t.len(), &mut file, &mut journal[0..room]);
+    set_name_into(rt, t.len(), &mut file, &mut journal[0..room])
 }
 
-pub fn sets(t: &[u8])
+pub fn sets(rt: &impl Print, t: &[u8]) -> io::Result<()>
     requires { length t.now ≤ 72 }
 {
-    set_name(t, 29);
-    set_name(t, 28);
-    set_name(t, 27);
+    set_name(rt, t, 29)?;
+    set_name(rt, t, 28)?;
+    set_name(rt, t, 27)
 }
 
-fn say_sets(key: &[u8], text: &[u8], next: &[u8], next_text: &[u8]) {
-    say(b"set ");
-    quote(key);
-    say(b" of T to ");
-    quote(text);
-    say(b" by 1, then ");
-    quote(next);
-    say(b" to ");
-    quote(next_text);
-    say(b" by 2");
+fn say_sets(
+    rt: &impl Print,
+    key: &[u8],
+    text: &[u8],
+    next: &[u8],
+    next_text: &[u8],
+) -> io::Result<()> {
+    say(rt, b"set ")?;
+    quote(rt, key)?;
+    say(rt, b" of T to ")?;
+    quote(rt, text)?;
+    say(rt, b" by 1, then ")?;
+    quote(rt, next)?;
+    say(rt, b" to ")?;
+    quote(rt, next_text)?;
+    say(rt, b" by 2")
 }
 
 // A set after one that is done.
@@ -75,6 +90,7 @@ fn set_next(first: Edited, file: &mut [u8], journal: &mut [u8], key: &[u8], text
 }
 
 fn set_in_turn(
+    rt: &impl Print,
     size: usize,
     file: &mut [u8],
     journal: &mut [u8],
@@ -82,44 +98,66 @@ fn set_in_turn(
     text: &[u8],
     next: &[u8],
     next_text: &[u8],
-) {
+) -> io::Result<()> {
     let first = edit::set(file, size, journal, 0, 0, 1, b"Desktop Entry", key, text);
     let both = set_next(first, file, journal, next, next_text);
-    tell_edited(both, file, journal);
+    tell_edited(rt, both, file, journal)
 }
 
-fn set_both(t: &[u8], key: &[u8], text: &[u8], next: &[u8], next_text: &[u8])
+fn set_both(
+    rt: &impl Print,
+    t: &[u8],
+    key: &[u8],
+    text: &[u8],
+    next: &[u8],
+    next_text: &[u8],
+) -> io::Result<()>
     requires { length t.now ≤ 84 }
 {
     let mut file = [b'.'; 84];
     let mut journal = [b'.'; 56];
     splice::write(&mut file, 0, t);
-    say_sets(key, text, next, next_text);
-    set_in_turn(t.len(), &mut file, &mut journal, key, text, next, next_text);
+    say_sets(rt, key, text, next, next_text)?;
+    set_in_turn(
+        rt,
+        t.len(),
+        &mut file,
+        &mut journal,
+        key,
+        text,
+        next,
+        next_text,
+    )
 }
 
 // Entries that T has: the same file. New ones: each comes last where it is set.
-pub fn orders(t: &[u8])
+pub fn orders(rt: &impl Print, t: &[u8]) -> io::Result<()>
     requires { length t.now ≤ 84 }
 {
-    set_both(t, b"Name", b"Les", b"Exec", b"v");
-    set_both(t, b"Exec", b"v", b"Name", b"Les");
-    set_both(t, b"Icon", b"a", b"URL", b"b");
-    set_both(t, b"URL", b"b", b"Icon", b"a");
+    set_both(rt, t, b"Name", b"Les", b"Exec", b"v")?;
+    set_both(rt, t, b"Exec", b"v", b"Name", b"Les")?;
+    set_both(rt, t, b"Icon", b"a", b"URL", b"b")?;
+    set_both(rt, t, b"URL", b"b", b"Icon", b"a")
 }
 
-fn ask_person(journal: &[u8], used: usize, standing: usize, n: usize) {
-    say(b"person of record ");
-    say_number(n);
-    say(b" in ");
-    say_number(used);
-    say(b" bytes, of which stand ");
-    say_number(standing);
-    tell_named(journal::person(journal, used, standing, n));
+fn ask_person(
+    rt: &impl Print,
+    journal: &[u8],
+    used: usize,
+    standing: usize,
+    n: usize,
+) -> io::Result<()> {
+    say(rt, b"person of record ")?;
+    say_number(rt, n)?;
+    say(rt, b" in ")?;
+    say_number(rt, used)?;
+    say(rt, b" bytes, of which stand ")?;
+    say_number(rt, standing)?;
+    tell_named(rt, journal::person(journal, used, standing, n))
 }
 
-fn ask_persons(file: &mut [u8], journal: &mut [u8]) {
-    say(b"set \"Exec\" to \"v\" by 7 behind a record of kind 1");
+fn ask_persons(rt: &impl Print, file: &mut [u8], journal: &mut [u8]) -> io::Result<()> {
+    say(rt, b"set \"Exec\" to \"v\" by 7 behind a record of kind 1")?;
     let e = edit::set(
         file,
         69,
@@ -131,42 +169,42 @@ fn ask_persons(file: &mut [u8], journal: &mut [u8]) {
         b"Exec",
         b"v",
     );
-    tell_edited(e, file, journal);
-    ask_person(journal, 54, 54, 0);
-    ask_person(journal, 54, 54, 1);
-    ask_person(journal, 54, 26, 1);
-    ask_person(journal, 54, 54, 2);
-    ask_person(journal, 54, 27, 2);
-    ask_person(journal, 53, 26, 0);
-    ask_person(journal, 56, 54, 0);
+    tell_edited(rt, e, file, journal)?;
+    ask_person(rt, journal, 54, 54, 0)?;
+    ask_person(rt, journal, 54, 54, 1)?;
+    ask_person(rt, journal, 54, 26, 1)?;
+    ask_person(rt, journal, 54, 54, 2)?;
+    ask_person(rt, journal, 54, 27, 2)?;
+    ask_person(rt, journal, 53, 26, 0)?;
+    ask_person(rt, journal, 56, 54, 0)
 }
 
 // Some edits forgotten in a copy of a journal.
-fn forget_in(journal: &[u8], standing: usize, k: usize)
+fn forget_in(rt: &impl Print, journal: &[u8], standing: usize, k: usize) -> io::Result<()>
     requires { length journal.now ≤ 55 }
 {
     let mut copy = [b'.'; 55];
     splice::write(&mut copy, 0, journal);
-    say(b"forget ");
-    say_number(k);
-    say(b" of the edits in 54 bytes, of which stand ");
-    say_number(standing);
+    say(rt, b"forget ")?;
+    say_number(rt, k)?;
+    say(rt, b" of the edits in 54 bytes, of which stand ")?;
+    say_number(rt, standing)?;
     let f = journal::forget(&mut copy, 54, standing, k);
-    tell_forgot(f, &copy);
+    tell_forgot(rt, f, &copy)
 }
 
-fn forget_some(journal: &[u8])
+fn forget_some(rt: &impl Print, journal: &[u8]) -> io::Result<()>
     requires { length journal.now ≤ 55 }
 {
-    forget_in(journal, 54, 0);
-    forget_in(journal, 26, 1);
-    forget_in(journal, 26, 2);
-    forget_in(journal, 27, 1);
-    forget_in(journal, 54, 2);
+    forget_in(rt, journal, 54, 0)?;
+    forget_in(rt, journal, 26, 1)?;
+    forget_in(rt, journal, 26, 2)?;
+    forget_in(rt, journal, 27, 1)?;
+    forget_in(rt, journal, 54, 2)
 }
 
 // A journal that 01's set of Name in T left, and an edit by a person behind it.
-pub fn journals() {
+pub fn journals(rt: &impl Print) -> io::Result<()> {
     let mut file = [b'.'; 72];
     let mut journal = [b'.'; 55];
     splice::write(
@@ -179,6 +217,6 @@ pub fn journals() {
         0,
         b"\x1a\0\0\0\x01\0&\0\0\0\x05\0\0\0\x03\0\0\0LesenLes",
     );
-    ask_persons(&mut file, &mut journal);
-    forget_some(&journal);
+    ask_persons(rt, &mut file, &mut journal)?;
+    forget_some(rt, &journal)
 }

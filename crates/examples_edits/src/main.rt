@@ -4,11 +4,13 @@
 mod edits; // edits.rt: set, with room in the journal and without; two in either order; who made an edit
 mod batches; // batches.rt: many requests in one call
 
-fn main() {
+use std::io;
+
+fn main(rt: HostRuntime) -> io::Result<()> {
     // File T of 01.
     let t = b"[Desktop Entry]\nType=Application\nName=Lesen\nName[fr]=Lire\nExec=view %F\n";
-    edits::sets(t);
-    edits::orders(t);
-    edits::journals();
-    batches::batches(t);
+    edits::sets(&rt, t)?;
+    edits::orders(&rt, t)?;
+    edits::journals(&rt)?;
+    batches::batches(&rt, t)
 }

@@ -1,81 +1,101 @@
 // Examples of lookup and of the choice of language.
 use report::{quote, say, tell_value};
+use std::io;
 
 // What a call that finds a value is asked.
-fn ask(call: &[u8], file: &[u8], group: &[u8], key: &[u8]) {
-    say(call);
-    say(b" ");
-    quote(key);
-    say(b" in ");
-    quote(group);
-    say(b" of ");
-    quote(file);
+fn ask(rt: &impl Print, call: &[u8], file: &[u8], group: &[u8], key: &[u8]) -> io::Result<()> {
+    say(rt, call)?;
+    say(rt, b" ")?;
+    quote(rt, key)?;
+    say(rt, b" in ")?;
+    quote(rt, group)?;
+    say(rt, b" of ")?;
+    quote(rt, file)
 }
 
-fn lookup<'a, 'b>(file: &'a [u8], group: &'b [u8], key: &'b [u8]) {
-    ask(b"lookup", file, group, key);
+fn lookup<'a, 'b>(
+    rt: &impl Print,
+    file: &'a [u8],
+    group: &'b [u8],
+    key: &'b [u8],
+) -> io::Result<()> {
+    ask(rt, b"lookup", file, group, key)?;
     tell_value(
+        rt,
         entry::lookup_ends(file, group, key),
         entry::lookup(file, group, key),
-    );
+    )
 }
 
-fn choose<'a, 'b>(file: &'a [u8], group: &'b [u8], key: &'b [u8], locale: &'b [u8]) {
-    ask(b"choose", file, group, key);
-    say(b" for ");
-    quote(locale);
+fn choose<'a, 'b>(
+    rt: &impl Print,
+    file: &'a [u8],
+    group: &'b [u8],
+    key: &'b [u8],
+    locale: &'b [u8],
+) -> io::Result<()> {
+    ask(rt, b"choose", file, group, key)?;
+    say(rt, b" for ")?;
+    quote(rt, locale)?;
     tell_value(
+        rt,
         entry::choose_ends(file, group, key, locale),
         entry::choose(file, group, key, locale),
-    );
+    )
 }
 
-pub fn lookups(t: &[u8; 71]) {
-    lookup(b"[Desktop Entry]\nName = X\n", b"Desktop Entry", b"Name");
-    lookup(b"[Desktop Entry]\nName=\n", b"Desktop Entry", b"Name");
-    lookup(b"[Desktop Entry]\nName=a \n", b"Desktop Entry", b"Name");
-    lookup(t, b"Desktop Entry", b"Name[fr]");
+pub fn lookups(rt: &impl Print, t: &[u8; 71]) -> io::Result<()> {
+    lookup(
+        rt,
+        b"[Desktop Entry]\nName = X\n",
+        b"Desktop Entry",
+        b"Name",
+    )?;
+    lookup(rt, b"[Desktop Entry]\nName=\n", b"Desktop Entry", b"Name")?;
+    lookup(rt, b"[Desktop Entry]\nName=a \n", b"Desktop Entry", b"Name")?;
+    lookup(rt, t, b"Desktop Entry", b"Name[fr]")
 }
 
-pub fn refused_lookups(t: &[u8; 71]) {
-    lookup(b"", b"[", b"Name");
-    lookup(b"[Desktop Entry]\nName\n", b"[", b"Name");
-    lookup(t, b"[", b"Name");
-    lookup(t, b"Desktop Entry", b"Name[");
-    lookup(t, b"Other", b"Name");
-    lookup(t, b"Desktop Entry", b"Icon");
+pub fn refused_lookups(rt: &impl Print, t: &[u8; 71]) -> io::Result<()> {
+    lookup(rt, b"", b"[", b"Name")?;
+    lookup(rt, b"[Desktop Entry]\nName\n", b"[", b"Name")?;
+    lookup(rt, t, b"[", b"Name")?;
+    lookup(rt, t, b"Desktop Entry", b"Name[")?;
+    lookup(rt, t, b"Other", b"Name")?;
+    lookup(rt, t, b"Desktop Entry", b"Icon")
 }
 
 // The choice of Name.
-fn choose_name<'a, 'b>(file: &'a [u8], locale: &'b [u8]) {
-    choose(file, b"Desktop Entry", b"Name", locale);
+fn choose_name<'a, 'b>(rt: &impl Print, file: &'a [u8], locale: &'b [u8]) -> io::Result<()> {
+    choose(rt, file, b"Desktop Entry", b"Name", locale)
 }
 
-pub fn choices(t: &[u8; 71]) {
+pub fn choices(rt: &impl Print, t: &[u8; 71]) -> io::Result<()> {
     choose_name(
+        rt,
         b"[Desktop Entry]\nName=Foo\nName[sr_YU]=a\nName[sr@Latn]=b\nName[sr]=c\n",
         b"sr_YU@Latn",
-    );
-    choose_name(t, b"fr_CA.UTF-8");
-    choose_name(t, b"de");
-    choose_name(t, b"C");
-    choose_name(t, b"");
+    )?;
+    choose_name(rt, t, b"fr_CA.UTF-8")?;
+    choose_name(rt, t, b"de")?;
+    choose_name(rt, t, b"C")?;
+    choose_name(rt, t, b"")
 }
 
 // Encodings do not count for the choice: of two keys that differ in them alone, the earlier line is taken. Lookup compares the whole key.
-pub fn choices_by_encoded_keys(t: &[u8; 93]) {
-    choose_name(t, b"de_DE");
-    choose_name(t, b"de_DE.ISO-8859-1@x");
-    choose_name(t, b"de@x");
-    choose_name(t, b"de");
-    choose_name(t, b"C.UTF-8");
-    lookup(t, b"Desktop Entry", b"Name[de_DE]");
+pub fn choices_by_encoded_keys(rt: &impl Print, t: &[u8; 93]) -> io::Result<()> {
+    choose_name(rt, t, b"de_DE")?;
+    choose_name(rt, t, b"de_DE.ISO-8859-1@x")?;
+    choose_name(rt, t, b"de@x")?;
+    choose_name(rt, t, b"de")?;
+    choose_name(rt, t, b"C.UTF-8")?;
+    lookup(rt, t, b"Desktop Entry", b"Name[de_DE]")
 }
 
-pub fn refused_choices(t: &[u8; 71]) {
-    choose(b"", b"Desktop Entry", b"Name", b"_");
-    choose_name(b"[Desktop Entry]\nName[\n", b"_");
-    choose(t, b"Desktop Entry", b"Name[fr]", b"fr");
-    choose_name(t, b"_");
-    choose(t, b"Desktop Entry", b"Icon", b"fr");
+pub fn refused_choices(rt: &impl Print, t: &[u8; 71]) -> io::Result<()> {
+    choose(rt, b"", b"Desktop Entry", b"Name", b"_")?;
+    choose_name(rt, b"[Desktop Entry]\nName[\n", b"_")?;
+    choose(rt, t, b"Desktop Entry", b"Name[fr]", b"fr")?;
+    choose_name(rt, t, b"_")?;
+    choose(rt, t, b"Desktop Entry", b"Icon", b"fr")
 }

@@ -8,23 +8,23 @@ use edit::Edited;
 use entry::Ends;
 use fault::Fault;
 use journal::{Forgot, Named};
-use libc::STDOUT_FILENO;
+use std::io;
 use text::Written;
 use wellformed::Checked;
 
-pub fn say(words: &[u8]) {
-    io::write_all(STDOUT_FILENO, words);
+pub fn say(rt: &impl Print, words: &[u8]) -> io::Result<()> {
+    rt.write_all(words)
 }
 
-pub fn say_number(n: usize) {
-    io::print_decimal(STDOUT_FILENO, n as u64);
+pub fn say_number(rt: &impl Print, n: usize) -> io::Result<()> {
+    rt.print(n)
 }
 
 // How much an output holds.
-pub fn say_room(room: usize) {
-    say(b" into ");
-    say_number(room);
-    say(b" bytes");
+pub fn say_room(rt: &impl Print, room: usize) -> io::Result<()> {
+    say(rt, b" into ")?;
+    say_number(rt, room)?;
+    say(rt, b" bytes")
 }
 
 fn digit(d: u8) -> u8
@@ -34,177 +34,185 @@ fn digit(d: u8) -> u8
 }
 
 // A byte in two hexadecimal digits.
-fn say_hex(b: u8) {
-    say(&[digit(b / 16), digit(b % 16)]);
+fn say_hex(rt: &impl Print, b: u8) -> io::Result<()> {
+    say(rt, &[digit(b / 16), digit(b % 16)])
 }
 
 // A byte between quotation marks: LF as `|`, one outside 0x20 to 0x7E by its digits in `<` and `>`.
-fn quote_byte(b: u8) {
+fn quote_byte(rt: &impl Print, b: u8) -> io::Result<()> {
     if b == b'\n' {
-        say(b"|");
+        say(rt, b"|")
     } else if b < 0x20 || 0x7e < b {
-        say(b"<");
-        say_hex(b);
-        say(b">");
+        say(rt, b"<")?;
+        say_hex(rt, b)?;
+        say(rt, b">")
     } else {
-        say(&[b]);
+        say(rt, &[b])
     }
 }
 
-fn quote_bytes(s: &[u8]) {
-    for i in 0..s.len() {
-        quote_byte(s[i]);
+fn quote_bytes(rt: &impl Print, s: &[u8]) -> io::Result<()> {
+    for b in s {
+        quote_byte(rt, *b)?;
     }
+    Ok(())
 }
 
-pub fn quote(s: &[u8]) {
-    say(b"\"");
-    quote_bytes(s);
-    say(b"\"");
+pub fn quote(rt: &impl Print, s: &[u8]) -> io::Result<()> {
+    say(rt, b"\"")?;
+    quote_bytes(rt, s)?;
+    say(rt, b"\"")
 }
 
-fn spaced_hex(b: u8) {
-    say(b" ");
-    say_hex(b);
+fn spaced_hex(rt: &impl Print, b: u8) -> io::Result<()> {
+    say(rt, b" ")?;
+    say_hex(rt, b)
 }
 
-fn spaced_bytes(s: &[u8]) {
-    for i in 0..s.len() {
-        spaced_hex(s[i]);
+fn spaced_bytes(rt: &impl Print, s: &[u8]) -> io::Result<()> {
+    for b in s {
+        spaced_hex(rt, *b)?;
     }
+    Ok(())
 }
 
-fn say_refused(f: Fault) {
+fn say_refused(rt: &impl Print, f: Fault) -> io::Result<()> {
     let t = fault::tell(f);
-    say(b": refused ");
-    say_number(t.number as usize);
-    say(b" at ");
-    say_number(t.place);
-    say(b" byte ");
-    say_number(t.byte);
+    say(rt, b": refused ")?;
+    say_number(rt, t.number as usize)?;
+    say(rt, b" at ")?;
+    say_number(rt, t.place)?;
+    say(rt, b" byte ")?;
+    say_number(rt, t.byte)
 }
 
 // The answer of the check or of completeness.
-pub fn tell_checked(c: Checked) {
+pub fn tell_checked(rt: &impl Print, c: Checked) -> io::Result<()> {
     match c {
-        Checked::Sound => say(b": accepted"),
-        Checked::Refused(f) => say_refused(f),
+        Checked::Sound => say(rt, b": accepted")?,
+        Checked::Refused(f) => say_refused(rt, f)?,
     }
-    say(b"\n");
+    say(rt, b"\n")
 }
 
 // The answer of a call that finds a value: its two ends, and the part of the file.
-pub fn tell_value(e: Ends, part: &[u8]) {
+pub fn tell_value(rt: &impl Print, e: Ends, part: &[u8]) -> io::Result<()> {
     match e {
         Ends::At { from, to } => {
-            say(b": ");
-            say_number(from);
-            say(b" to ");
-            say_number(to);
+            say(rt, b": ")?;
+            say_number(rt, from)?;
+            say(rt, b" to ")?;
+            say_number(rt, to)?;
         }
-        Ends::Refused(f) => say_refused(f),
+        Ends::Refused(f) => say_refused(rt, f)?,
     }
-    say(b", ");
-    quote(part);
-    say(b"\n");
+    say(rt, b", ")?;
+    quote(rt, part)?;
+    say(rt, b"\n")
 }
 
-fn say_written(w: Written) {
+fn say_written(rt: &impl Print, w: Written) -> io::Result<()> {
     match w {
         Written::Bytes(n) => {
-            say(b": ");
-            say_number(n);
-            say(b" bytes");
+            say(rt, b": ")?;
+            say_number(rt, n)?;
+            say(rt, b" bytes")
         }
-        Written::Refused(f) => say_refused(f),
+        Written::Refused(f) => say_refused(rt, f),
     }
 }
 
 // The answer of a call that writes text, and the whole output.
-pub fn tell_text(w: Written, out: &[u8]) {
-    say_written(w);
-    say(b", ");
-    quote(out);
-    say(b"\n");
+pub fn tell_text(rt: &impl Print, w: Written, out: &[u8]) -> io::Result<()> {
+    say_written(rt, w)?;
+    say(rt, b", ")?;
+    quote(rt, out)?;
+    say(rt, b"\n")
 }
 
 // The answer of a call that writes records, and the whole output.
-pub fn tell_records(w: Written, out: &[u8]) {
-    say_written(w);
-    say(b",");
-    spaced_bytes(out);
-    say(b"\n");
+pub fn tell_records(rt: &impl Print, w: Written, out: &[u8]) -> io::Result<()> {
+    say_written(rt, w)?;
+    say(rt, b",")?;
+    spaced_bytes(rt, out)?;
+    say(rt, b"\n")
 }
 
-fn say_numbers(used: usize, standing: usize) {
-    say(b"used ");
-    say_number(used);
-    say(b", standing ");
-    say_number(standing);
+fn say_numbers(rt: &impl Print, used: usize, standing: usize) -> io::Result<()> {
+    say(rt, b"used ")?;
+    say_number(rt, used)?;
+    say(rt, b", standing ")?;
+    say_number(rt, standing)
 }
 
-fn say_buffers(file: &[u8], journal: &[u8]) {
-    say(b", ");
-    quote(file);
-    say(b",");
-    spaced_bytes(journal);
-    say(b"\n");
+fn say_buffers(rt: &impl Print, file: &[u8], journal: &[u8]) -> io::Result<()> {
+    say(rt, b", ")?;
+    quote(rt, file)?;
+    say(rt, b",")?;
+    spaced_bytes(rt, journal)?;
+    say(rt, b"\n")
 }
 
 // The answer of a call that edits, and both buffers.
-pub fn tell_edited(e: Edited, file: &[u8], journal: &[u8]) {
+pub fn tell_edited(rt: &impl Print, e: Edited, file: &[u8], journal: &[u8]) -> io::Result<()> {
     match e {
         Edited::Done {
             size,
             used,
             standing,
         } => {
-            say(b": ");
-            say_number(size);
-            say(b" bytes, ");
-            say_numbers(used, standing);
+            say(rt, b": ")?;
+            say_number(rt, size)?;
+            say(rt, b" bytes, ")?;
+            say_numbers(rt, used, standing)?;
         }
-        Edited::Refused(f) => say_refused(f),
+        Edited::Refused(f) => say_refused(rt, f)?,
     }
-    say_buffers(file, journal);
+    say_buffers(rt, file, journal)
 }
 
 // The answer of the call for a person.
-pub fn tell_named(n: Named) {
+pub fn tell_named(rt: &impl Print, n: Named) -> io::Result<()> {
     match n {
         Named::Person(p) => {
-            say(b": ");
-            say_number(p as usize);
+            say(rt, b": ")?;
+            say_number(rt, p as usize)?;
         }
-        Named::Refused(f) => say_refused(f),
+        Named::Refused(f) => say_refused(rt, f)?,
     }
-    say(b"\n");
+    say(rt, b"\n")
 }
 
 // The answer of the call that forgets, and the journal's buffer.
-pub fn tell_forgot(f: Forgot, journal: &[u8]) {
+pub fn tell_forgot(rt: &impl Print, f: Forgot, journal: &[u8]) -> io::Result<()> {
     match f {
         Forgot::Done { used, standing } => {
-            say(b": ");
-            say_numbers(used, standing);
+            say(rt, b": ")?;
+            say_numbers(rt, used, standing)?;
         }
-        Forgot::Refused(fault) => say_refused(fault),
+        Forgot::Refused(fault) => say_refused(rt, fault)?,
     }
-    say(b",");
-    spaced_bytes(journal);
-    say(b"\n");
+    say(rt, b",")?;
+    spaced_bytes(rt, journal)?;
+    say(rt, b"\n")
 }
 
-fn say_left(done: usize, size: usize, used: usize, standing: usize) {
-    say_number(done);
-    say(b" done, ");
-    say_number(size);
-    say(b" bytes, ");
-    say_numbers(used, standing);
+fn say_left(
+    rt: &impl Print,
+    done: usize,
+    size: usize,
+    used: usize,
+    standing: usize,
+) -> io::Result<()> {
+    say_number(rt, done)?;
+    say(rt, b" done, ")?;
+    say_number(rt, size)?;
+    say(rt, b" bytes, ")?;
+    say_numbers(rt, used, standing)
 }
 
 // The answer of a batch, and both buffers.
-pub fn tell_batched(b: Batched, file: &[u8], journal: &[u8]) {
+pub fn tell_batched(rt: &impl Print, b: Batched, file: &[u8], journal: &[u8]) -> io::Result<()> {
     match b {
         Batched::All {
             done,
@@ -212,8 +220,8 @@ pub fn tell_batched(b: Batched, file: &[u8], journal: &[u8]) {
             used,
             standing,
         } => {
-            say(b": ");
-            say_left(done, size, used, standing);
+            say(rt, b": ")?;
+            say_left(rt, done, size, used, standing)?;
         }
         Batched::Stopped {
             fault,
@@ -222,10 +230,10 @@ pub fn tell_batched(b: Batched, file: &[u8], journal: &[u8]) {
             used,
             standing,
         } => {
-            say_refused(fault);
-            say(b", ");
-            say_left(done, size, used, standing);
+            say_refused(rt, fault)?;
+            say(rt, b", ")?;
+            say_left(rt, done, size, used, standing)?;
         }
     }
-    say_buffers(file, journal);
+    say_buffers(rt, file, journal)
 }
