@@ -104,7 +104,7 @@ run() {
     { "$@" 2>&1 && echo "it is done" || echo "it has failed"; } | while IFS= read -r line; do
         printf '%s\n' "$line" >>"$log"
         case $line in
-        *" $word "*)
+        *"$word "*)
             count=$((count + 1))
             if [ -t 2 ]; then printf '\rkveldrim: %s %s' "$count" "$words" >&2; fi
             ;;
@@ -114,23 +114,32 @@ run() {
     [ "$(tail -n 1 "$log")" = "it is done" ]
 }
 
-# How many crates of this repository the library is made of, without the one of its C interface.
+# How many crates of this repository the library is made of.
 count_crates() {
-    total=0
-    for name in $(grep '^kveldrim:' "$root/crates.txt"); do
-        if [ -d "$root/crates/$name" ]; then total=$((total + 1)); fi
+    total=0 seen='' names=kveldrim
+    while [ -n "$names" ]; do
+        below=''
+        for name in $names; do
+            case " $seen " in *" $name "*) continue ;; esac
+            seen="$seen $name"
+            if [ -d "$root/crates/$name" ]; then total=$((total + 1)); fi
+            below="$below $(sed -n "s/^$name\( staticlib\)\{0,1\}://p" "$root/crates.txt")"
+        done
+        names=$below
     done
     echo "$total"
 }
 
 build_library() {
-    library=$root/target/staticlib/libkveldrim.a
-    if [ -f "$library" ] && [ -z "$(find "$root/crates" "$root/crates.txt" -type f -newer "$library" -print -quit)" ]; then
+    library=$root/crates/kveldrim/out/libkveldrim.a
+    # Beside the sources, `rt` keeps its own work in each crate's out/.
+    if [ -f "$library" ] &&
+        [ -z "$(find "$root/crates" "$root/crates.txt" -path "$root/crates/*/out" -prune -o -type f -newer "$library" -print -quit)" ]; then
         return 0
     fi
     command -v rt >/dev/null || fail "'rt' of the Rattle kit is needed to build the library and is not on the path"
     say "building the proved library, about 5 minutes on two processors (log: $log)"
-    run "of $(count_crates) crates proved" proved sh -c 'cd "$1" && rt staticlib kveldrim' sh "$root" ||
+    run "of $(count_crates) crates proved" logic=proved sh -c 'cd "$1" && rt lib' sh "$root/crates/kveldrim" ||
         fail "the library could not be built: see $log"
     touch "$library"
 }

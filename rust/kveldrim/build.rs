@@ -1,4 +1,4 @@
-//! Finds the proved static library and links it: in the folder KVELDRIM_LIB (an absolute path), else in target/staticlib.
+//! Finds the proved static library and links it: in the folder KVELDRIM_LIB (an absolute path), else in crates/kveldrim/out.
 
 use std::env;
 use std::path::PathBuf;
@@ -9,13 +9,13 @@ fn main() {
     println!("cargo:rerun-if-env-changed=KVELDRIM_LIB");
     let folder = match env::var_os("KVELDRIM_LIB") {
         Some(folder) => PathBuf::from(folder),
-        None => PathBuf::from(env!("CARGO_MANIFEST_DIR")).join("../../target/staticlib"),
+        None => PathBuf::from(env!("CARGO_MANIFEST_DIR")).join("../../crates/kveldrim/out"),
     };
     let library = folder.join("libkveldrim.a");
     println!("cargo:rerun-if-changed={}", library.display());
     if !library.is_file() {
         eprintln!("{} is missing.", library.display());
-        eprintln!("Make it with `rt staticlib kveldrim` at the root of the repository,");
+        eprintln!("Make it with `rt lib` in the folder crates/kveldrim,");
         eprintln!("or name the folder that has it in the environment variable KVELDRIM_LIB.");
         exit(1);
     }

@@ -42,7 +42,7 @@ impl Checkout {
         for script in ["kveldrim", "rust/build.sh", "rust/debian.toml"] {
             checkout.write(script, &fs::read_to_string(top.join(script)).unwrap());
         }
-        checkout.write("crates.txt", "a:\nkveldrim: a bytes\n");
+        checkout.write("crates.txt", "a:\nkveldrim staticlib: a\n");
         for source in [
             "crates/a/src/lib.rt",
             "crates/a/proofs/f/Proof.antt",
@@ -66,8 +66,10 @@ impl Checkout {
             checkout.is_of(source, 3600);
         }
         checkout.write("rust/target/release/kveldrim", BUILT);
-        checkout.write("target/staticlib/libkveldrim.a", "");
-        checkout.program("rt", "echo rt >> \"$called\"; echo 'rt: a proved (1 s)'; touch target/staticlib/libkveldrim.a");
+        checkout.write("crates/kveldrim/out/libkveldrim.a", "");
+        // What `rt` keeps of its own is no source.
+        checkout.write("crates/a/out/kept", "");
+        checkout.program("rt", "echo rt >> \"$called\"; echo 'logic=proved functions=1'; touch out/libkveldrim.a");
         checkout.program(
             "cargo",
             "[ \"$1\" = --version ] && { echo 'cargo 1.85.0 (x)'; exit; }\n\
@@ -160,7 +162,7 @@ fn what_is_older_than_its_sources_is_built() {
     ] {
         let checkout = Checkout::new();
         checkout.is_of("rust/target/release/kveldrim", 60);
-        checkout.is_of("target/staticlib/libkveldrim.a", 60);
+        checkout.is_of("crates/kveldrim/out/libkveldrim.a", 60);
         checkout.run(&[b"a b"]).writes(b"[a b]");
         checkout.is_of(source, 0);
         let outcome = checkout.run(&[b"a b"]);
@@ -245,7 +247,7 @@ fn a_cargo_that_is_too_old_is_told_in_one_line() {
 fn without_the_kit() {
     let checkout = Checkout::new();
     checkout.is_of("rust/target/release/kveldrim", 60);
-    checkout.is_of("target/staticlib/libkveldrim.a", 60);
+    checkout.is_of("crates/kveldrim/out/libkveldrim.a", 60);
     checkout.is_of("crates/a/src/lib.rt", 0);
     fs::remove_file(checkout.path("bin/rt")).unwrap();
     checkout
