@@ -7,7 +7,7 @@ use lib.ListN.{length}
 use Rattle.base.specs.Lists.{same, any}
 use Rattle.fault.specs.declared.Fault.{Fault}
 use Rattle.fault.specs.declared.Fault.TheVariants.{BadArgument, Missing}
-use Rattle.fault.specs.Answer.{given, refused, ◌>>=◌, then}
+use Rattle.fault.specs.Answer.{given, refused, then}
 use Rattle.fault.proofs.Answers.{then-refused, bind-then}
 use Rattle.record.specs.Record.{list_of}
 use Rattle.text.specs.Element.{elements_of}

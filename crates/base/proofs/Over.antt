@@ -5,7 +5,7 @@ use Prim.Native.Nat.{ℕ, ◌+◌, ◌≤◌}
 use native.Mathlib.Nat.{add_assoc}
 use native.Mathlib.Omega.{arith}
 use lib.ListN.{length, take, drop, length-append, length-drop}
-use lib.Seq.{length-take-le, take_at, drop_at, take-length, drop-drop, take-append-le, take-take}
+use lib.Seq.{length-take-le, take_at, drop_at, drop-drop, take-append-le, take-take}
 use Rattle.base.specs.Over.{over, at_front, WroteAt}
 use Rattle.base.proofs.Tail.{lent, back, tail-lent, tail-back}
 

@@ -21,7 +21,6 @@ use Rattle.line.specs.declared.Parts.{Parts}
 use Rattle.line.proofs.Locales.{parts_within}
 use Rattle.rows.proofs.Seek.{same_none}
 use Rattle.choice.specs.Locale.{lang_of, country_of, modifier_of, stripped}
-use Rattle.choice.specs.Locale as spec
 use Rattle.choice.specs.Step.{all_keys, rank_in, rank_part, Closed}
 use Rattle.choice.proofs.Cut.{front-keys, Part, part-is, Parted, bracket, parted-same}
 

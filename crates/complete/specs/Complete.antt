@@ -1,5 +1,5 @@
 -- Completeness (01, "Lines of a file"): by plain keys of Desktop Entry and raw values. Assumes nothing.
-use Rattle.std.specs.Prelude.{ℕ, Bool, true, false, not, ◌&&◌, ◌||◌, List, [], ◌∷◌}
+use Rattle.std.specs.Prelude.{ℕ, Bool, false, not, ◌&&◌, ◌||◌, List, [], ◌∷◌}
 use Rattle.base.specs.Choice.{maybe}
 use Rattle.base.specs.Lists.{ascii, same, any, first}
 use Rattle.fault.specs.declared.Fault.TheVariants.{Incomplete}

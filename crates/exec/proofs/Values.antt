@@ -1,6 +1,6 @@
 -- The raw values that an expansion reads, and their texts. Assumes nothing.
 use mathlib.Core.Path.{◌≡◌, refl, sym, ◌∙◌}
-use Prim.Native.Nat.{ℕ, suc, ◌+◌, ◌-◌, ◌≤◌}
+use Prim.Native.Nat.{ℕ, suc, ◌+◌, ◌≤◌}
 use native.Mathlib.Omega.{arith}
 use mathlib.Core.Bool.{Bool, true, false}
 use mathlib.Core.Option.{Option, none, some}
@@ -18,7 +18,7 @@ use Rattle.fault.specs.declared.Fault.TheVariants.{BadEscape, Missing}
 use Rattle.fault.specs.Answer.{Answer, given, refused, ◌>>=◌, some_or, then}
 use Rattle.text.proofs.OutputLaws.{Leaves}
 use Rattle.text.specs.Escape.{escape, text_from, read_text}
-use Rattle.text.specs.Output.{answered, written_length, held}
+use Rattle.text.specs.Output.{answered}
 use Rattle.text.specs.Step.{text_of}
 use Rattle.text.specs.declared.Escapes.{Escapes}
 use Rattle.text.specs.declared.Written.{Written}

@@ -1,9 +1,9 @@
 -- What the stores of a head and of a record leave. Assumes nothing.
 use mathlib.Core.Path.{◌≡◌, ◌∙◌}
-use mathlib.Core.List.{List, ◌++◌}
+use mathlib.Core.List.{List}
 use Prim.Native.Nat.{ℕ, ◌+◌, ◌≤◌}
 use native.Mathlib.Omega.{arith}
-use lib.ListN.{length, take, drop}
+use lib.ListN.{length}
 use Rattle.base.specs.Over.{over, at_front}
 use Rattle.base.proofs.Tail.{lent, back}
 use Rattle.base.proofs.Over.{over-tail, over-then, over-before}

@@ -1,5 +1,4 @@
 -- `tell_checked` meets its contract: a refusal is told by its number, place and byte. Assumes nothing.
-use borrow.Author.Rules.{rules}
 use Rattle.abi.proofs.tell_checked.Goals as goal
 
 pub returns-in-Refused : goal.returns-in-Refused

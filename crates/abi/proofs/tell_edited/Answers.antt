@@ -1,6 +1,5 @@
 -- `tell_edited` meets its contract: a refusal is told by its number, place and byte, and writes no other number. Assumes nothing.
 use mathlib.Core.Path.{refl}
-use borrow.Author.Rules.{rules}
 use Rattle.abi.proofs.tell_edited.Goals as goal
 
 pub returns-in-Done : goal.returns-in-Done

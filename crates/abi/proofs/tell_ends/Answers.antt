@@ -1,6 +1,5 @@
 -- `tell_ends` meets its contract: a refusal is told by its number, place and byte, and writes no other number. Assumes nothing.
 use mathlib.Core.Path.{refl}
-use borrow.Author.Rules.{rules}
 use Rattle.abi.proofs.tell_ends.Goals as goal
 
 pub returns-in-At : goal.returns-in-At

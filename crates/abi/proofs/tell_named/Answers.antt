@@ -1,6 +1,5 @@
 -- `tell_named` meets its contract: a refusal is told by its number, place and byte, and writes no number. Assumes nothing.
 use mathlib.Core.Path.{refl}
-use borrow.Author.Rules.{rules}
 use Rattle.abi.proofs.tell_named.Goals as goal
 
 pub returns-in-Refused : goal.returns-in-Refused

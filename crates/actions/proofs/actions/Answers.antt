@@ -14,7 +14,6 @@ use Rattle.wellformed.specs.Check as pass
 use Rattle.wellformed.proofs.Accepts.{check-good}
 use Rattle.actions.specs.Actions as spec
 use Rattle.actions.proofs.Answering.{list-unsound, list-locale, list-wrong, list_read}
-use borrow.Author.Rules.{rules}
 use Rattle.actions.proofs.actions.Goals as goal
 use Rattle.actions.proofs.actions.Goals.{In-Sound, Then-is_locale}
 

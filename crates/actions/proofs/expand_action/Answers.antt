@@ -16,7 +16,6 @@ use Rattle.actions.specs.Actions as spec
 use Rattle.actions.specs.Step.{elements}
 use Rattle.actions.proofs.Groups.{group-none, group-some}
 use Rattle.actions.proofs.Answering.{action-unasked, action-wrong, action-other, action-listed}
-use borrow.Author.Rules.{rules}
 use Rattle.actions.proofs.expand_action.Goals as goal
 use Rattle.actions.proofs.expand_action.Goals.{In-Items}
 

@@ -7,7 +7,6 @@ use Rattle.edit.specs.Calls as calls
 use Rattle.edit.specs.Calls.{State, lent}
 use Rattle.edit.specs.Step.{passed}
 use Rattle.batch.proofs.Running.{not_opened, not-read}
-use borrow.Author.Rules.{rules}
 use Rattle.batch.proofs.batch.Goals as goal
 use Rattle.batch.proofs.batch.Goals.{In-Sound, Start}
 

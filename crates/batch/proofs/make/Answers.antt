@@ -6,7 +6,6 @@ use Rattle.base.proofs.Tests.{no}
 use Rattle.requests.specs.Requests.{Asked}
 use Rattle.requests.specs.Places.{Reads}
 use Rattle.requests.specs.declared.Fields.TheVariants.{Two, Three}
-use borrow.Author.Rules.{rules}
 use Rattle.batch.proofs.make.Goals as goal
 use Rattle.batch.proofs.make.Goals.{In-Three, In-Two}
 

@@ -1,16 +1,12 @@
 -- `batch::run` meets its contract: the requests before the place are done, and those from there on decide. Assumes nothing.
 use native.Mathlib.Omega.{arith}
 use borrow.Author.Rules.{rules}
-use mathlib.Core.Path.{◌≡◌, refl, sym, ◌∙◌}
-use Prim.Native.Nat.{ℕ, ◌-◌}
-use mathlib.Core.List.{List}
-use lib.ListN.{length}
+use mathlib.Core.Path.{refl, sym, ◌∙◌}
 use Rattle.record.proofs.Place.{Stands, front-damaged, front-record}
 use Rattle.journal.specs.Journal.{Person}
 use Rattle.edit.specs.Calls.{lent}
-use Rattle.edit.specs.Step.{Ready}
 use Rattle.edit.proofs.Opening.{opened-fits}
-use Rattle.batch.proofs.Running.{Running, run-begin, run-damaged, run-done, run-stopped, run-next}
+use Rattle.batch.proofs.Running.{run-begin, run-damaged, run-done, run-stopped, run-next}
 use Rattle.batch.proofs.run.Goals as goal
 use Rattle.batch.proofs.run.Goals.{In-Record}
 

@@ -1,5 +1,4 @@
 -- `behind` meets its contract: the two ways of its test. Assumes nothing.
-use borrow.Author.Rules.{rules}
 use borrow.Author.Tests.{lt-ltb, le-ltb}
 use Rattle.change.proofs.behind.Goals as goal
 

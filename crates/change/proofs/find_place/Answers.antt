@@ -1,6 +1,5 @@
 -- `find_place` meets its contract: the group's last row, and the plain key, say which edit the definition has. Assumes nothing.
 use mathlib.Core.Path.{sym, ◌∙◌}
-use borrow.Author.Rules.{rules}
 use Rattle.change.proofs.Aiming.{set-no-group, set-no-plain, set-entry}
 use Rattle.change.proofs.find_place.Goals as goal
 

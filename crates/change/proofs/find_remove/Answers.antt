@@ -1,6 +1,5 @@
 -- `find_remove` meets its contract: what was found says which edit the definition has. Assumes nothing.
 use mathlib.Core.Path.{sym, ◌∙◌}
-use borrow.Author.Rules.{rules}
 use native.Mathlib.Omega.{arith}
 use Rattle.change.proofs.Aiming.{remove-missing, remove-blocked, remove-row, last-start, remove-last}
 use Rattle.change.proofs.find_remove.Goals as goal

@@ -1,6 +1,5 @@
 -- `find_set` meets its contract: what was found says which edit the definition has. Assumes nothing.
 use mathlib.Core.Path.{sym, ap, ◌∙◌}
-use borrow.Author.Rules.{rules}
 use Rattle.base.specs.Choice.{there}
 use Rattle.rows.specs.Rows.{read_rows}
 use Rattle.rows.specs.Title.{Key, find_row}

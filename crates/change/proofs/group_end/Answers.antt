@@ -1,10 +1,8 @@
 -- `group_end` meets its contract: the last row of the group before `p` is known. Assumes nothing.
 use borrow.Author.Rules.{rules}
 use native.Mathlib.Omega.{arith}
-use lib.ListN.{length}
-use Prim.Native.Nat.{◌-◌}
 use Rattle.rows.proofs.Step.{end-le}
-use Rattle.change.proofs.Passing.{Ending, ending-start, ending-end, ending-row, ending-other}
+use Rattle.change.proofs.Passing.{ending-start, ending-end, ending-row, ending-other}
 use Rattle.change.proofs.group_end.Goals as goal
 
 pub slice_bounds-l-end : goal.slice_bounds-l-end

@@ -1,10 +1,7 @@
 -- `group_end` meets its contract: the last row of the group before `p` is known. Assumes nothing.
-use borrow.Author.Rules.{rules}
-use native.Mathlib.Omega.{arith}
 use lib.ListN.{length}
 use Prim.Native.Nat.{◌-◌}
-use Rattle.rows.proofs.Step.{end-le}
-use Rattle.change.proofs.Passing.{Ending, ending-start, ending-end, ending-row, ending-other}
+use Rattle.change.proofs.Passing.{Ending}
 use Rattle.change.proofs.group_end.Given as goal
 
 abbrev pub invariant-loop-p : goal.invariant-loop-p

@@ -1,6 +1,5 @@
 -- `has_plain` meets its contract: the key is its own plain key, or that one is looked for. Assumes nothing.
 use mathlib.Core.Path.{sym, ◌∙◌}
-use borrow.Author.Rules.{rules}
 use lib.Seq.{length-take-le}
 use Rattle.change.proofs.Aiming.{plain-le, plain-itself, plain-there, plain-missing}
 use Rattle.change.proofs.has_plain.Goals as goal

@@ -1,10 +1,8 @@
 -- `has_postfixed` meets its contract: no row before `p` is such a key. Assumes nothing.
 use borrow.Author.Rules.{rules}
 use native.Mathlib.Omega.{arith}
-use lib.ListN.{length}
-use Prim.Native.Nat.{◌-◌}
 use Rattle.rows.proofs.Step.{end-le}
-use Rattle.change.proofs.Passing.{Lone, lone-start, lone-end, lone-not, lone-next}
+use Rattle.change.proofs.Passing.{lone-start, lone-end, lone-not, lone-next}
 use Rattle.change.proofs.has_postfixed.Goals as goal
 
 pub slice_bounds-l-end : goal.slice_bounds-l-end

@@ -1,10 +1,7 @@
 -- `has_postfixed` meets its contract: no row before `p` is such a key. Assumes nothing.
-use borrow.Author.Rules.{rules}
-use native.Mathlib.Omega.{arith}
 use lib.ListN.{length}
 use Prim.Native.Nat.{◌-◌}
-use Rattle.rows.proofs.Step.{end-le}
-use Rattle.change.proofs.Passing.{Lone, lone-start, lone-end, lone-not, lone-next}
+use Rattle.change.proofs.Passing.{Lone}
 use Rattle.change.proofs.has_postfixed.Given as goal
 
 abbrev pub invariant-loop-p : goal.invariant-loop-p

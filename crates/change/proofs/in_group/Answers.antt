@@ -1,5 +1,4 @@
 -- `in_group` meets its contract: only a header leads to another group. Assumes nothing.
-use borrow.Author.Rules.{rules}
 use borrow.Author.Tests.{ne_eqb}
 use native.Mathlib.Omega.{arith}
 use lib.ListN.{length}

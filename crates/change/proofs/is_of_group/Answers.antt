@@ -1,5 +1,4 @@
 -- `is_of_group` meets its contract: each arm is given the reading that it matches. Assumes nothing.
-use borrow.Author.Rules.{rules}
 use Rattle.change.proofs.is_of_group.Goals as goal
 
 pub returns-in-Blank : goal.returns-in-Blank

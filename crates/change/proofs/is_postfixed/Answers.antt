@@ -1,6 +1,5 @@
 -- `is_postfixed` meets its contract: each arm is given the reading that it matches. Assumes nothing.
 use mathlib.Core.Path.{sym}
-use borrow.Author.Rules.{rules}
 use native.Mathlib.Omega.{arith}
 use lib.Seq.{length-take-le}
 use Rattle.line.proofs.Bounds.{line-within}

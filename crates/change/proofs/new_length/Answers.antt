@@ -1,5 +1,4 @@
 -- `new_length` meets its contract: the lengths of the parts, none counted past the limit. Assumes nothing.
-use borrow.Author.Rules.{rules}
 use native.Mathlib.Omega.{arith}
 use Rattle.change.proofs.Writing.{new-entry-length}
 use Rattle.change.proofs.new_length.Goals as goal

@@ -1,5 +1,4 @@
 -- `put_entry` meets its contract: each piece stands right behind the last. Assumes nothing.
-use borrow.Author.Rules.{rules}
 use native.Mathlib.Omega.{arith}
 use Rattle.change.proofs.Writing.{write_then}
 use Rattle.change.proofs.Writing.{entry_length}

@@ -1,5 +1,4 @@
 -- `put_line` meets its contract: one piece stands right behind the other. Assumes nothing.
-use borrow.Author.Rules.{rules}
 use native.Mathlib.Omega.{arith}
 use Rattle.change.proofs.Writing.{write_then}
 use Rattle.change.proofs.put_line.Goals as goal

@@ -1,5 +1,4 @@
 -- `put_new` meets its contract: each arm writes what its target says. Assumes nothing.
-use borrow.Author.Rules.{rules}
 use native.Mathlib.Omega.{arith}
 use Rattle.change.proofs.Writing.{entry_length, new-entry-length, write-none}
 use Rattle.change.proofs.put_new.Goals as goal

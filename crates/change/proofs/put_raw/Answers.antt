@@ -1,6 +1,5 @@
 -- `put_raw` meets its contract: what is written to a tail stands there. Assumes nothing.
 use Rattle.base.proofs.Over.{write-lent}
-use borrow.Author.Rules.{rules}
 use Rattle.change.proofs.put_raw.Goals as goal
 
 pub returns : goal.returns

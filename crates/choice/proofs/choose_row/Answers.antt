@@ -7,7 +7,6 @@ use Rattle.base.specs.Lists.{all}
 use Rattle.base.proofs.Tests.{and_both}
 use Rattle.characters.specs.Class.{key_byte}
 use Rattle.line.specs.Form.{plain_form}
-use borrow.Author.Rules.{rules}
 use Rattle.rows.specs.Rows.{read_rows}
 use Rattle.choice.proofs.Stripped.{plain-found}
 use Rattle.choice.proofs.Choices.{chosen_plain, chosen-other}

@@ -2,8 +2,7 @@
 use borrow.Author.Rules.{rules}
 use native.Mathlib.Omega.{arith}
 use mathlib.Core.Path.{sym, ◌∙◌}
-use lib.ListN.{length}
-use Prim.Native.Nat.{◌+◌, ◌-◌}
+use Prim.Native.Nat.{◌+◌}
 use Rattle.rows.proofs.Step.{end-le}
 use Rattle.rows.proofs.Seek.{value-fits, seek-good}
 use Rattle.choice.specs.Step.{all_keys}
@@ -31,17 +30,17 @@ overflow_add-found c =
 next : (c : Joined-inside)
     → Best c.args.file.now c.args.group.now (all_keys c.args.key.now c.args.locale.now)
     (c.line_end-e.result + 1) (c.loop-at.n + 1) c.is_inside-inside.result c.if-inside.best c.if-inside.found
-next c = 
+next c =
     elim c.if-inside.branch [
-      then-inside+then-begins+then-r-best w ↦
-        best-as (best-better _ _ _ c.loop-at.invariant (search rules) c.line_end-e.ensures c.is_inside-inside.ensures w.if-inside.true w.rank-r.ensures w.if-r-best.true w.value_start.ensures) w.best-is w.found-is
+      | then-inside+then-begins+then-r-best w ↦
+          best-as (best-better _ _ _ c.loop-at.invariant (search rules) c.line_end-e.ensures c.is_inside-inside.ensures w.if-inside.true w.rank-r.ensures w.if-r-best.true w.value_start.ensures) w.best-is w.found-is
       | then-inside+then-begins+else-r-best w ↦
-        best-as (best-stays _ _ _ c.loop-at.invariant (search rules) c.line_end-e.ensures c.is_inside-inside.ensures w.if-inside.true w.rank-r.ensures w.if-r-best.false) w.best-is w.found-is
+          best-as (best-stays _ _ _ c.loop-at.invariant (search rules) c.line_end-e.ensures c.is_inside-inside.ensures w.if-inside.true w.rank-r.ensures w.if-r-best.false) w.best-is w.found-is
       | then-inside+else-begins w ↦
-        best-as
-        (best-stays _ _ _ c.loop-at.invariant (search rules) c.line_end-e.ensures c.is_inside-inside.ensures w.if-inside.true
-        (line_other c.args.key.now c.args.locale.now c.requires.1 _ (sym w.begins.ensures ∙ w.if-begins.false)) c.loop-at.invariant.most)
-        w.best-is w.found-is
+          best-as
+          (best-stays _ _ _ c.loop-at.invariant (search rules) c.line_end-e.ensures c.is_inside-inside.ensures w.if-inside.true
+          (line_other c.args.key.now c.args.locale.now c.requires.1 _ (sym w.begins.ensures ∙ w.if-begins.false)) c.loop-at.invariant.most)
+          w.best-is w.found-is
       | else-inside w ↦ best-as (best-outside _ _ _ c.loop-at.invariant (search rules) c.line_end-e.ensures c.is_inside-inside.ensures w.if-inside.false) w.best-is w.found-is
     ]
 

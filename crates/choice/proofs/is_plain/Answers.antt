@@ -2,7 +2,6 @@
 use native.Mathlib.Omega.{arith}
 use mathlib.Core.Path.{sym, ◌∙◌}
 use lib.Seq.{length-take-le}
-use borrow.Author.Rules.{rules}
 use Rattle.choice.proofs.Postfixes.{parts-inside}
 use Rattle.choice.proofs.Plain.{plain-lang, plain-longer}
 use Rattle.choice.proofs.is_plain.Goals as goal

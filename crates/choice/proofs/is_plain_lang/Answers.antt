@@ -2,7 +2,6 @@
 use mathlib.Core.Path.{sym, ◌∙◌}
 use Rattle.base.specs.Lists.{any}
 use mathlib.Core.Bool.{or-false}
-use borrow.Author.Rules.{rules}
 use Rattle.choice.proofs.is_plain_lang.Goals as goal
 
 pub returns-then-same : goal.returns-then-same

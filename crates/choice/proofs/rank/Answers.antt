@@ -3,7 +3,6 @@ use native.Mathlib.Omega.{arith}
 use mathlib.Core.Path.{◌≡◌, sym, ◌∙◌}
 use Prim.Native.Nat.{◌≤◌, ◌<◌}
 use lib.ListN.{length}
-use borrow.Author.Rules.{rules}
 use borrow.Author.Tests.{ne_eqb}
 use Rattle.line.specs.Name.{read_name}
 use Rattle.line.specs.declared.Named.TheVariants.{Name}
@@ -16,7 +15,7 @@ named : (c : In-Name) → read_name c.args.l.now ≡ Name c.in-Name.k c.in-Name.
 named c = sym c.read_name.ensures ∙ c.in-Name.is
 
 pub returns-then-name-k : goal.returns-then-name-k
-returns-then-name-k c = 
+returns-then-name-k c =
     rw (named (goal.at.returns-then-name-k c).In-Name) (rank-plain c.args.key.now c.args.locale.now c.requires.0 c.args.l.now _ _ (named (goal.at.returns-then-name-k c).In-Name) c.if-k-key.true c.requires.3 c.if-name-k.true)
 
 -- the postfix
@@ -30,16 +29,16 @@ opened-within c =
     (omega (arith, w, c.if-name-k.false), w.2)
 
 pub rank_postfix-requires : goal.rank_postfix-requires
-rank_postfix-requires c = 
+rank_postfix-requires c =
     ((opened (goal.at.rank_postfix-requires c).Else-name-k).closes, c.requires.1, c.requires.2)
 
 pub returns-then-k-key : goal.returns-then-k-key
-returns-then-k-key c = 
+returns-then-k-key c =
     rw (named (goal.at.returns-then-k-key c).In-Name)
     (c.rank_postfix.ensures ∙ rank-postfixed c.args.key.now c.args.locale.now c.requires.0 c.args.l.now _ _ (named (goal.at.returns-then-k-key c).In-Name) c.if-k-key.true c.requires.3 c.if-name-k.false)
 
 pub returns-else-k-key : goal.returns-else-k-key
-returns-else-k-key c = 
+returns-else-k-key c =
     rw (named (goal.at.returns-else-k-key c).In-Name) (rank-other c.args.key.now c.args.locale.now c.requires.0 c.args.l.now _ _ (named (goal.at.returns-else-k-key c).In-Name) (rw (ne_eqb _ _ c.if-k-key.false)))
 
 pub overflow_add-k : goal.overflow_add-k

@@ -1,6 +1,5 @@
 -- `rank_part` meets its contract: the parts are compared, then the length of the one that is there. Assumes nothing.
 use mathlib.Core.Path.{sym, ◌∙◌}
-use borrow.Author.Rules.{rules}
 use borrow.Author.Tests.{eq-eqb, ne_eqb}
 use Rattle.choice.specs.Step.{rank_part}
 use Rattle.choice.proofs.rank_part.Goals as goal

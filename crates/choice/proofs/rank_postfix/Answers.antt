@@ -6,7 +6,6 @@ use mathlib.Core.List.{[], ◌∷◌}
 use lib.ListN.{length}
 use lib.Seq.{length-take-le}
 use lib.Dec.{ltb}
-use borrow.Author.Rules.{rules}
 use borrow.Author.Tests.{lt-ltb, le-ltb}
 use Rattle.base.specs.Choice.{pick}
 use Rattle.line.specs.Locale.{locale_end}
@@ -31,7 +30,7 @@ slice_bounds-same-end-2 c = sym (length-take-le _ c.args.s.now (omega (arith, wi
 by_parts : (c : After-rank_part-m)
     → rank_in (all_keys [] c.args.locale.now) (91 ∷ stripped c.args.s.now)
     ≡ (let r : ℕ = 2 * c.rank_part-c.result + c.rank_part-m.result in pick (ltb r 4) r 5)
-by_parts c = 
+by_parts c =
     rank-by c.args.s.now c.args.locale.now c.requires.2 c.read_parts-q.ensures c.requires.0 c.requires.1
     ∙ rw (sym c.same.ensures ∙ c.if-same.true, ← c.rank_part-c.ensures, ← c.rank_part-m.ensures)
 

@@ -2,12 +2,10 @@
 use borrow.Author.Rules.{rules}
 use mathlib.Core.Path.{sym, ap, ◌∙◌}
 use native.Mathlib.Omega.{arith}
-use Prim.Native.Nat.{◌-◌}
-use lib.ListN.{length}
 use Rattle.base.proofs.Lists.{length_part}
 use Rattle.command.specs.Step.{checked_as}
 use Rattle.command.proofs.Parting.{word-ends}
-use Rattle.command.proofs.Checks.{Commanding, commanding-start, commanding-space, commanding-refused, commanding-next, commanding-none, commanding-end, command-answer}
+use Rattle.command.proofs.Checks.{commanding-start, commanding-space, commanding-refused, commanding-next, commanding-none, commanding-end, command-answer}
 use Rattle.command.proofs.check_command.Goals as goal
 
 pub loop-i-init : goal.loop-i-init

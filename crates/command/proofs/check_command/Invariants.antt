@@ -1,13 +1,7 @@
 -- `check_command` meets its contract: the faults from `i` on are all that can be found, and the codes there all that were not seen. Assumes nothing.
-use borrow.Author.Rules.{rules}
-use mathlib.Core.Path.{sym, ap, ◌∙◌}
-use native.Mathlib.Omega.{arith}
 use Prim.Native.Nat.{◌-◌}
 use lib.ListN.{length}
-use Rattle.base.proofs.Lists.{length_part}
-use Rattle.command.specs.Step.{checked_as}
-use Rattle.command.proofs.Parting.{word-ends}
-use Rattle.command.proofs.Checks.{Commanding, commanding-start, commanding-space, commanding-refused, commanding-next, commanding-none, commanding-end, command-answer}
+use Rattle.command.proofs.Checks.{Commanding}
 use Rattle.command.proofs.check_command.Given as goal
 
 abbrev pub invariant-loop-i : goal.invariant-loop-i

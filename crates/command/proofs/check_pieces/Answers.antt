@@ -2,10 +2,8 @@
 use borrow.Author.Rules.{rules}
 use mathlib.Core.Path.{sym, ap, ◌∙◌}
 use native.Mathlib.Omega.{arith}
-use Prim.Native.Nat.{◌-◌}
-use lib.ListN.{length}
 use Rattle.command.specs.Step.{fault_in}
-use Rattle.command.proofs.Pieces.{width_fits, Checking, checking-start, checking-end, checking-refused, checking-next}
+use Rattle.command.proofs.Pieces.{width_fits, checking-start, checking-end, checking-refused, checking-next}
 use Rattle.command.proofs.check_pieces.Goals as goal
 
 pub loop-i-init : goal.loop-i-init

@@ -1,6 +1,5 @@
 -- `check_word` meets its contract: the calls that led to each return say which answer the definition has. Assumes nothing.
 use Rattle.command.specs.Command.{word_fault, argument_of}
-use borrow.Author.Rules.{rules}
 use Rattle.command.proofs.check_word.Goals as goal
 
 pub returns-then-program : goal.returns-then-program

@@ -2,7 +2,6 @@
 use mathlib.Core.Path.{sym, ◌∙◌}
 use borrow.Author.Tests.{eq-eqb, ne_eqb}
 use Rattle.command.specs.Command.{form_of}
-use borrow.Author.Rules.{rules}
 use Rattle.command.proofs.form_of.Goals as goal
 
 pub returns-then-byte_at-eq34 : goal.returns-then-byte_at-eq34

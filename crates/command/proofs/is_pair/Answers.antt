@@ -1,6 +1,5 @@
 -- `is_pair` meets its contract: the tests that led to each return say which case of the definition holds. Assumes nothing.
 use borrow.Author.Tests.{eq-eqb, ne_eqb}
-use borrow.Author.Rules.{rules}
 use Rattle.command.proofs.is_pair.Goals as goal
 
 pub returns-then-word-eq2 : goal.returns-then-word-eq2

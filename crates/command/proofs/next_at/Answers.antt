@@ -1,7 +1,6 @@
 -- `next_at` meets its contract: a piece takes one byte or two. Assumes nothing.
 use native.Mathlib.Omega.{arith}
 use Rattle.command.proofs.Pieces.{width_fits}
-use borrow.Author.Rules.{rules}
 use Rattle.command.proofs.next_at.Goals as goal
 
 pub overflow_add-result : goal.overflow_add-result

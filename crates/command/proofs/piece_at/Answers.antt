@@ -1,5 +1,4 @@
 -- `piece_at` meets its contract: the two bytes from the place on are its. Assumes nothing.
-use borrow.Author.Rules.{rules}
 use Rattle.command.proofs.piece_at.Goals as goal
 
 pub returns : goal.returns

@@ -1,5 +1,4 @@
 -- `see` meets its contract: each arm is the case of its name. Assumes nothing.
-use borrow.Author.Rules.{rules}
 use Rattle.command.proofs.see.Goals as goal
 
 pub returns-in-Item : goal.returns-in-Item

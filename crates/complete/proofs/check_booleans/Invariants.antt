@@ -1,10 +1,7 @@
 -- `check_booleans` meets its contract: the rows from `p` on have the answer. Assumes nothing.
-use borrow.Author.Rules.{rules}
-use native.Mathlib.Omega.{arith}
 use lib.ListN.{length}
 use Prim.Native.Nat.{◌-◌}
-use Rattle.complete.proofs.Booleans.{BooleansFrom, booleans-start, booleans-end, is-header, after-header, after-plain, at-wrong}
-use Rattle.rows.proofs.Step.{end-le}
+use Rattle.complete.proofs.Booleans.{BooleansFrom}
 use Rattle.complete.proofs.check_booleans.Given as goal
 
 abbrev pub invariant-loop-p : goal.invariant-loop-p

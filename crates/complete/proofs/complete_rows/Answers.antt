@@ -2,7 +2,6 @@
 use Rattle.complete.proofs.Keys.{KeyRow, key_row, key-none, complete-type}
 use Rattle.complete.specs.Complete.{complete_rows}
 use Rattle.base.specs.Lists.{ascii}
-use borrow.Author.Rules.{rules}
 use Rattle.complete.proofs.complete_rows.Goals as goal
 use Rattle.complete.proofs.complete_rows.Goals.{In-Row}
 

@@ -1,6 +1,5 @@
 -- `exec_where_due` meets its contract: the calls that led to each return say which case holds. Assumes nothing.
 use Rattle.complete.specs.Complete.{exec_where_due}
-use borrow.Author.Rules.{rules}
 use Rattle.complete.proofs.exec_where_due.Goals as goal
 
 pub returns-then-has_key : goal.returns-then-has_key

@@ -1,6 +1,5 @@
 -- `has_key` meets its contract: what is told of the row says whether there is one. Assumes nothing.
 use Rattle.complete.proofs.Keys.{key_row, key-none}
-use borrow.Author.Rules.{rules}
 use Rattle.complete.proofs.has_key.Goals as goal
 
 pub returns-in-Row : goal.returns-in-Row

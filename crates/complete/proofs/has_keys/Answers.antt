@@ -1,6 +1,5 @@
 -- `has_keys` meets its contract: the answer is what its three calls answer. Assumes nothing.
 use Rattle.complete.specs.Step.{keys_there}
-use borrow.Author.Rules.{rules}
 use Rattle.complete.proofs.has_keys.Goals as goal
 
 pub returns : goal.returns

@@ -2,7 +2,6 @@
 use mathlib.Core.Bool.{or_assoc, or-false}
 use Rattle.base.specs.Lists.{any}
 use Rattle.complete.specs.Complete.{is_boolean}
-use borrow.Author.Rules.{rules}
 use Rattle.complete.proofs.is_boolean.Goals as goal
 
 pub returns : goal.returns

@@ -2,7 +2,6 @@
 use mathlib.Core.Bool.{or_assoc, or-false}
 use Rattle.base.specs.Lists.{any}
 use Rattle.complete.specs.Complete.{known_type}
-use borrow.Author.Rules.{rules}
 use Rattle.complete.proofs.is_type.Goals as goal
 
 pub returns : goal.returns

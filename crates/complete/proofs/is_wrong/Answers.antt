@@ -6,7 +6,6 @@ use Rattle.base.proofs.Tail.{tail-lent}
 use Rattle.line.proofs.Bounds.{LineWithin, line-within}
 use Rattle.line.specs.declared.Line.TheVariants.{Entry}
 use lib.Seq.{length-take-le}
-use borrow.Author.Rules.{rules}
 use Rattle.complete.proofs.is_wrong.Goals as goal
 use Rattle.complete.proofs.is_wrong.Goals.{In-Entry}
 

@@ -1,6 +1,5 @@
 -- `url_where_due` meets its contract: the calls that led to each return say which case holds. Assumes nothing.
 use Rattle.complete.specs.Complete.{url_where_due}
-use borrow.Author.Rules.{rules}
 use Rattle.complete.proofs.url_where_due.Goals as goal
 
 pub returns-then-value_is : goal.returns-then-value_is

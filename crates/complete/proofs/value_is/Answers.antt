@@ -1,7 +1,6 @@
 -- `value_is` meets its contract: the value stands in the file where it is told. Assumes nothing.
 use Rattle.complete.proofs.Keys.{KeyRow, key_row, key-none}
 use Rattle.complete.specs.Complete.{value_is}
-use borrow.Author.Rules.{rules}
 use Rattle.complete.proofs.value_is.Goals as goal
 use Rattle.complete.proofs.value_is.Goals.{In-Row}
 

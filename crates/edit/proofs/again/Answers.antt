@@ -1,6 +1,5 @@
 -- `edit::again` meets its contract: the answer is that of the edit, with the numbers. Assumes nothing.
 use Rattle.edit.proofs.Turning.{refused-too, numbers-too}
-use borrow.Author.Rules.{rules}
 use Rattle.edit.proofs.again.Goals as goal
 
 pub returns-in-Refused : goal.returns-in-Refused

@@ -3,7 +3,6 @@ use native.Mathlib.Omega.{arith}
 use mathlib.Core.Path.{sym}
 use lib.Seq.{length-take-le}
 use Rattle.edit.proofs.Replaying.{built-checked}
-use borrow.Author.Rules.{rules}
 use Rattle.edit.proofs.built_well.Goals as goal
 
 pub slice_bounds-check-end-2 : goal.slice_bounds-check-end-2

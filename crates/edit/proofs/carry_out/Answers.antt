@@ -1,7 +1,6 @@
 -- `edit::carry_out` meets its contract: the target's edit is the request's. Assumes nothing.
 use mathlib.Core.Path.{sym}
 use lib.Seq.{length-take-le}
-use borrow.Author.Rules.{rules}
 use Rattle.edit.proofs.carry_out.Goals as goal
 
 pub apply-requires : goal.apply-requires

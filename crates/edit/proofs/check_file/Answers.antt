@@ -2,8 +2,6 @@
 use native.Mathlib.Omega.{arith}
 use mathlib.Core.Path.{sym, ◌∙◌}
 use lib.Seq.{length-take-le}
-use borrow.Author.Rules.{rules}
-use borrow.Author.Tests.{not-true, not-false}
 use Rattle.edit.specs.Calls.{State, lent}
 use Rattle.edit.proofs.Opening.{size-over, numbers-over, lengths-fit}
 use Rattle.edit.proofs.check_file.Goals as goal

@@ -4,7 +4,6 @@ use lib.Seq.{length-take-le}
 use Rattle.wellformed.specs.Check.{answered}
 use Rattle.edit.specs.Calls.{lent}
 use Rattle.edit.proofs.Opening.{ready-fits, opened-refused, opened-sound, opened-damaged}
-use borrow.Author.Rules.{rules}
 use Rattle.edit.proofs.check_lent.Goals as goal
 
 pub slice_bounds-sound-end : goal.slice_bounds-sound-end

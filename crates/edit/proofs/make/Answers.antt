@@ -14,7 +14,6 @@ use Rattle.journal.specs.Journal.{Person, Authored, by, edit_record}
 use Rattle.change.specs.Target.{new_bytes}
 use Rattle.edit.specs.Calls.{State, content, lent}
 use Rattle.edit.proofs.Applying.{length-spliced, part-take, file-full, file-most, journal-full, journal-most, all_made}
-use borrow.Author.Rules.{rules}
 use Rattle.edit.proofs.make.Goals as goal
 use Rattle.edit.proofs.make.Goals.{Start}
 

@@ -1,9 +1,7 @@
 -- `edit::outcome` meets its contract: each test decides one line of the definition. Assumes nothing.
 use native.Mathlib.Omega.{arith}
 use mathlib.Core.Path.{sym, ◌∙◌}
-use borrow.Author.Tests.{not-true, not-false}
 use Rattle.edit.proofs.Replaying.{stands-inside, not_there, over-room, over-most, ill-formed, made}
-use borrow.Author.Rules.{rules}
 use Rattle.edit.proofs.outcome.Goals as goal
 
 pub returns-then-not-stands : goal.returns-then-not-stands

@@ -3,7 +3,6 @@ use native.Mathlib.Omega.{arith}
 use mathlib.Core.Path.{sym}
 use lib.Seq.{length-take-le}
 use Rattle.edit.proofs.Replaying.{makes, unmade}
-use borrow.Author.Rules.{rules}
 use Rattle.edit.proofs.replay.Goals as goal
 
 pub slice_bounds-outcome-end-2 : goal.slice_bounds-outcome-end-2

@@ -10,7 +10,6 @@ use Rattle.edit.specs.Calls.{State, lent}
 use Rattle.edit.specs.Step.{passed}
 use Rattle.edit.proofs.Opening.{opened-fits}
 use Rattle.edit.proofs.Applying.{not_opened, was-opened}
-use borrow.Author.Rules.{rules}
 use Rattle.edit.proofs.request.Goals as goal
 use Rattle.edit.proofs.request.Goals.{In-Sound, Start}
 

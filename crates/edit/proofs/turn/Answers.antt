@@ -2,7 +2,6 @@
 use native.Mathlib.Omega.{arith}
 use mathlib.Core.Path.{sym}
 use lib.Seq.{length-take-le}
-use borrow.Author.Rules.{rules}
 use Rattle.journal.specs.declared.Way.TheVariants.{Undo, Redo}
 use Rattle.edit.proofs.Opening.{ready-fits}
 use Rattle.edit.proofs.Turning.{way-steps, made-unready, made-unread, made_again}

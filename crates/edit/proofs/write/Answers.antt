@@ -10,7 +10,6 @@ use Rattle.splice.specs.Edit.{Edit, replaced, buffer_with}
 use Rattle.journal.specs.Journal.{Person}
 use Rattle.change.specs.Target.{new_bytes}
 use Rattle.edit.proofs.Applying.{record-written, new-written}
-use borrow.Author.Rules.{rules}
 use Rattle.edit.proofs.write.Goals as goal
 
 pub returns : goal.returns
@@ -26,6 +25,9 @@ returns c =
     let q : a.n ≡ length x = c.requires.2 in
     let h : a.standing + (20 + length e.old + a.n) ≤ length a.journal.now = omega arith in
     let r = record-written a.journal.now a.standing (Person a.person) e a.n q h f z w.is in
-    let p = new-written a.journal.now a.standing (Person a.person) e a.n q h f z w.is in record { file = c.replace.ensures
+    let p = new-written a.journal.now a.standing (Person a.person) e a.n q h f z w.is in record {
+      file = c.replace.ensures
           ∙ ap (λ (y : List ℕ). buffer_with a.file.now a.size (replaced a.place a.old y (take a.size a.file.now)))
-          (ap (λ (m : ℕ). part from m c.put_new-end.new.out) w.ends ∙ p); journal = r }
+          (ap (λ (m : ℕ). part from m c.put_new-end.new.out) w.ends ∙ p);
+      journal = r;
+    }

@@ -1,6 +1,5 @@
 -- `choose` meets its contract: it hands on the part between the ends. Assumes nothing.
 use Rattle.entry.proofs.Lookups.{choose-inside}
-use borrow.Author.Rules.{rules}
 use Rattle.entry.proofs.choose.Goals as goal
 
 pub slice_bounds-result-count : goal.slice_bounds-result-count

@@ -4,7 +4,6 @@ use Rattle.entry.specs.Choose.{choose}
 use Rattle.wellformed.specs.Check as check
 use Rattle.wellformed.proofs.Accepts.{check-good}
 use Rattle.rows.specs.Title.{desktop_entry}
-use borrow.Author.Rules.{rules}
 use Rattle.entry.proofs.choose_ends.Goals as goal
 
 pub chosen_ends-requires : goal.chosen_ends-requires

@@ -4,7 +4,6 @@ use Rattle.rows.specs.Rows.{read_rows}
 use Rattle.choice.specs.Locale.{chosen}
 use Rattle.entry.specs.Lookup.{answered, ends_of}
 use Rattle.entry.proofs.Lookups.{ends-answer}
-use borrow.Author.Rules.{rules}
 use Rattle.entry.proofs.chosen_ends.Goals as goal
 
 pub returns : goal.returns

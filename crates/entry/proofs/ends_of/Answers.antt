@@ -1,5 +1,4 @@
 -- `ends_of` meets its contract: each arm is the definition's case. Assumes nothing.
-use borrow.Author.Rules.{rules}
 use Rattle.entry.proofs.ends_of.Goals as goal
 
 pub returns-in-Row : goal.returns-in-Row

@@ -5,7 +5,6 @@ use Rattle.wellformed.proofs.Accepts.{check-good}
 use Rattle.rows.specs.Title.{desktop_entry}
 use Rattle.entry.specs.Complete.{complete}
 use Rattle.complete.specs.Step.{completed}
-use borrow.Author.Rules.{rules}
 use Rattle.entry.proofs.is_complete.Goals as goal
 
 pub returns-in-Refused : goal.returns-in-Refused

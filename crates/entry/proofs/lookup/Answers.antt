@@ -1,6 +1,5 @@
 -- `lookup` meets its contract: it hands on the part between the ends. Assumes nothing.
 use Rattle.entry.proofs.Lookups.{lookup-inside}
-use borrow.Author.Rules.{rules}
 use Rattle.entry.proofs.lookup.Goals as goal
 
 pub slice_bounds-result-count : goal.slice_bounds-result-count

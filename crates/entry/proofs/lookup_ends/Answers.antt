@@ -6,7 +6,6 @@ use Rattle.wellformed.specs.Check as check
 use Rattle.wellformed.proofs.Accepts.{check-good}
 use Rattle.rows.specs.Rows.{read_rows}
 use Rattle.rows.specs.Title.{desktop_entry, Key, find_row}
-use borrow.Author.Rules.{rules}
 use Rattle.entry.proofs.lookup_ends.Goals as goal
 
 pub returns-then-is_key : goal.returns-then-is_key

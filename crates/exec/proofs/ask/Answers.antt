@@ -9,7 +9,6 @@ use Rattle.fault.specs.Answer.{given, ◌>>=◌, need, then}
 use Rattle.wellformed.specs.Check as pass
 use Rattle.record.proofs.Bodies.{count-reads, count-refuses}
 use Rattle.exec.specs.Expand.{asked_items, fit_location}
-use borrow.Author.Rules.{rules}
 use Rattle.exec.proofs.ask.Goals as goal
 use Rattle.exec.proofs.ask.Goals.{After-is_fit_location}
 

@@ -7,7 +7,6 @@ use Rattle.exec.specs.Expand as spec
 use Rattle.exec.specs.Step.{asked_as}
 use Rattle.exec.proofs.Asking.{asked-given}
 use Rattle.exec.proofs.Expanding.{expand-refused, expand-granted}
-use borrow.Author.Rules.{rules}
 use Rattle.exec.proofs.expand.Goals as goal
 
 pub expand_group-requires : goal.expand_group-requires

@@ -8,7 +8,6 @@ use Rattle.command.specs.Step.{checked_as}
 use Rattle.run.specs.Step.{items_in}
 use Rattle.exec.proofs.Values.{key-value, value-short, text-given}
 use Rattle.exec.proofs.Expanding.{refused-leaves, group-missing, group-unread, group-short, group-wrong, group-right}
-use borrow.Author.Rules.{rules}
 use Rattle.exec.proofs.expand_group.Goals as goal
 
 pub returns-in_default : goal.returns-in_default

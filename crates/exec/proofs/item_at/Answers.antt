@@ -7,7 +7,6 @@ use Rattle.record.proofs.Seek.{nth-body, nth_past}
 use Rattle.run.specs.Step.{items_in}
 use Rattle.exec.proofs.Asking.{reads-some}
 use mathlib.Core.List.{[]}
-use borrow.Author.Rules.{rules}
 use Rattle.exec.proofs.item_at.Goals as goal
 
 pub nth-requires : goal.nth-requires

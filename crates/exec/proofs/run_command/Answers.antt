@@ -7,7 +7,6 @@ use Rattle.exec.specs.Expand.{name_text, icon_text}
 use Rattle.run.specs.Step.{items_in}
 use Rattle.exec.proofs.Values.{read-given}
 use Rattle.exec.proofs.Expanding.{refused-leaves, run_past, run-no-name, run-no-icon, run-given}
-use borrow.Author.Rules.{rules}
 use Rattle.exec.proofs.run_command.Goals as goal
 
 pub returns-in_default : goal.returns-in_default

@@ -1,6 +1,5 @@
 -- `fault::tell` meets its contract: in each arm the variant is known, and the table's line of it is the answer. Assumes nothing.
 use mathlib.Core.Path.{refl}
-use borrow.Author.Rules.{rules}
 use Rattle.fault.proofs.tell.Goals as goal
 
 pub returns-in-TooLong : goal.returns-in-TooLong

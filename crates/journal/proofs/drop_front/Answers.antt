@@ -1,5 +1,4 @@
 -- `journal::drop_front` meets its contract: one move, and both numbers. Assumes nothing.
-use borrow.Author.Rules.{rules}
 use Rattle.journal.proofs.Ends.{front-dropped}
 use Rattle.journal.proofs.drop_front.Goals as goal
 

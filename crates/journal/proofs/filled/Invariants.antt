@@ -1,11 +1,8 @@
 -- `journal::filled` meets its contract: the records from the place on decide. Assumes nothing.
-use native.Mathlib.Omega.{arith}
-use borrow.Author.Rules.{rules}
 use Prim.Native.Nat.{◌-◌}
 use lib.ListN.{length}
-use Rattle.record.proofs.Each.{Filling, fill-begin, fill-damaged, fill-next, fill_done}
+use Rattle.record.proofs.Each.{Filling}
 use Rattle.journal.specs.Journal.{read_edit}
-use Rattle.journal.proofs.Walking.{further, ends-record}
 use Rattle.journal.proofs.filled.Given as goal
 
 abbrev pub invariant-loop-end : goal.invariant-loop-end

@@ -1,5 +1,4 @@
 -- `journal::first_waiting` meets its contract: the record at standing holds the next edit. Assumes nothing.
-use borrow.Author.Rules.{rules}
 use Rattle.journal.proofs.Answers.{waiting-damaged, waiting-read}
 use Rattle.journal.proofs.first_waiting.Goals as goal
 

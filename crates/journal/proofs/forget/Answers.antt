@@ -1,6 +1,4 @@
 -- `journal::forget` meets its contract: what is asked first, the oldest records, and one move. Assumes nothing.
-use borrow.Author.Rules.{rules}
-use borrow.Author.Tests.{not-true, not-false}
 use mathlib.Core.Path.{◌∙◌, sym}
 use lib.Seq.{length-take-le}
 use Rattle.journal.proofs.Opened.{opened-bounds, opened-sound}

@@ -1,5 +1,4 @@
 -- `journal::last_standing` meets its contract: the record where the latest one begins holds the latest edit. Assumes nothing.
-use borrow.Author.Rules.{rules}
 use Rattle.journal.proofs.Answers.{latest-damaged, latest-nothing, latest-read}
 use Rattle.journal.proofs.last_standing.Goals as goal
 

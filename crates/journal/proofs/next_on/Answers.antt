@@ -1,5 +1,4 @@
 -- `journal::next_on` meets its contract: it is the call of its way. Assumes nothing.
-use borrow.Author.Rules.{rules}
 use Rattle.journal.proofs.next_on.Goals as goal
 
 pub returns-in-Undo : goal.returns-in-Undo

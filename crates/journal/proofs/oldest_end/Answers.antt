@@ -1,6 +1,5 @@
 -- `journal::oldest_end` meets its contract: the oldest k end where record k ends, if that stands. Assumes nothing.
 use native.Mathlib.Omega.{arith}
-use borrow.Author.Rules.{rules}
 use mathlib.Core.Path.{◌∙◌, sym}
 use Rattle.base.proofs.Tests.{some-there}
 use Rattle.journal.proofs.Joined.{of, journal-says}

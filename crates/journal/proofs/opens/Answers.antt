@@ -1,6 +1,4 @@
 -- `journal::opens` meets its contract: the numbers, then the walk. Assumes nothing.
-use borrow.Author.Rules.{rules}
-use borrow.Author.Tests.{not-true, not-false}
 use mathlib.Core.Path.{◌∙◌, sym}
 use lib.Seq.{length-take-le}
 use Rattle.journal.proofs.Numbers.{numbers-bounds}

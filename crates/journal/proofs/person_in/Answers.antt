@@ -1,7 +1,6 @@
 -- `journal::person_in` meets its contract: the kind before the n-th body says whether it begins with a person. Assumes nothing.
 use mathlib.Core.Path.{◌∙◌, sym, ap}
 use native.Mathlib.Omega.{arith}
-use borrow.Author.Rules.{rules}
 use Rattle.base.proofs.Tests.{some-there}
 use Rattle.fault.specs.Answer.{given}
 use Rattle.journal.proofs.Persons.{person-found, person-missing, kind-inside, kind-there, person-inside, person-four, person-other}

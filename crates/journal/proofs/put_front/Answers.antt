@@ -1,7 +1,6 @@
 -- `journal::put_front` meets its contract: five writes, one after another, are the front of the record. Assumes nothing.
 use Prim.Native.Nat.{◌+◌}
 use native.Mathlib.Omega.{arith}
-use borrow.Author.Rules.{rules}
 use Rattle.record.proofs.Numbers.{length-number}
 use Rattle.journal.specs.Journal.{Person}
 use Rattle.journal.proofs.Front.{front-written}

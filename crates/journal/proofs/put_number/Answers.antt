@@ -1,5 +1,4 @@
 -- `journal::put_number` meets its contract: four bytes at the front of a tail. Assumes nothing.
-use borrow.Author.Rules.{rules}
 use Rattle.base.proofs.Over.{over-tail}
 use Rattle.record.specs.Number.{little_endian}
 use Rattle.journal.proofs.put_number.Goals as goal

@@ -1,5 +1,4 @@
 -- `journal::put_person` meets its contract: the person's two bytes behind the head. Assumes nothing.
-use borrow.Author.Rules.{rules}
 use Rattle.journal.proofs.Front.{person-written}
 use Rattle.journal.proofs.put_person.Goals as goal
 

@@ -1,7 +1,6 @@
 -- `journal::read_edit` meets its contract: the end, no record, one of another kind, or one that `read_parts` reads. Assumes nothing.
 use mathlib.Core.Path.{◌∙◌, sym}
 use native.Mathlib.Omega.{arith}
-use borrow.Author.Rules.{rules}
 use Rattle.record.proofs.Place.{front-damaged, front-record}
 use Rattle.journal.specs.Journal.{NoPerson, Person}
 use Rattle.journal.proofs.Read.{no-edit, edit-other, edit-bare, edit-person, edit-stub, reads-by}

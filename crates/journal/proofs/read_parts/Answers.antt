@@ -1,7 +1,6 @@
 -- `journal::read_parts` meets its contract: the numbers in the bytes say where the edit's bytes stand. Assumes nothing.
 use mathlib.Core.Path.{refl}
 use native.Mathlib.Omega.{arith}
-use borrow.Author.Rules.{rules}
 use Rattle.journal.proofs.Read.{bytes-short, bytes-unlike, bytes_read}
 use Rattle.journal.proofs.read_parts.Goals as goal
 

@@ -1,6 +1,5 @@
 -- `journal::sound` meets its contract: the walk says whether the journal reads. Assumes nothing.
 use mathlib.Core.Path.{sym, ap}
-use borrow.Author.Rules.{rules}
 use Rattle.base.specs.Choice.{there}
 use Rattle.journal.proofs.sound.Goals as goal
 

@@ -1,9 +1,7 @@
 -- `journal::walk` meets its contract: the records up to the place stand, and those from there on decide. Assumes nothing.
 use native.Mathlib.Omega.{arith}
-use borrow.Author.Rules.{rules}
 use mathlib.Core.Path.{◌∙◌, sym}
-use Prim.Native.Nat.{◌-◌}
-use Rattle.journal.proofs.Walking.{further, Walking, walk-begin, walk-damaged, walk-short, walk-beyond, walk-next, walk-unsound, walk-sound}
+use Rattle.journal.proofs.Walking.{further, walk-begin, walk-damaged, walk-short, walk-beyond, walk-next, walk-unsound, walk-sound}
 use Rattle.journal.proofs.walk.Goals as goal
 
 pub returns-in-Damaged : goal.returns-in-Damaged

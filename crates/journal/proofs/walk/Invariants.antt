@@ -1,9 +1,6 @@
 -- `journal::walk` meets its contract: the records up to the place stand, and those from there on decide. Assumes nothing.
-use native.Mathlib.Omega.{arith}
-use borrow.Author.Rules.{rules}
-use mathlib.Core.Path.{◌∙◌, sym}
 use Prim.Native.Nat.{◌-◌}
-use Rattle.journal.proofs.Walking.{further, Walking, walk-begin, walk-damaged, walk-short, walk-beyond, walk-next, walk-unsound, walk-sound}
+use Rattle.journal.proofs.Walking.{Walking}
 use Rattle.journal.proofs.walk.Given as goal
 
 abbrev pub invariant-loop-at : goal.invariant-loop-at

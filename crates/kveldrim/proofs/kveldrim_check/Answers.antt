@@ -1,6 +1,5 @@
 -- `kveldrim_check` meets its contract: it is the call. Assumes nothing.
 use Rattle.abi.proofs.Telling.{same-returned}
-use borrow.Author.Rules.{rules}
 use Rattle.kveldrim.proofs.kveldrim_check.Goals as goal
 
 pub returns : goal.returns

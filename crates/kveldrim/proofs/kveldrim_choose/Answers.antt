@@ -1,6 +1,5 @@
 -- `kveldrim_choose` meets its contract: it is the call. Assumes nothing.
 use Rattle.abi.proofs.Telling.{same_ends}
-use borrow.Author.Rules.{rules}
 use Rattle.kveldrim.proofs.kveldrim_choose.Goals as goal
 
 pub returns : goal.returns

@@ -1,6 +1,5 @@
 -- `kveldrim_complete` meets its contract: it is the call. Assumes nothing.
 use Rattle.abi.proofs.Telling.{same-returned}
-use borrow.Author.Rules.{rules}
 use Rattle.kveldrim.proofs.kveldrim_complete.Goals as goal
 
 pub returns : goal.returns

@@ -8,7 +8,6 @@ use Rattle.line.specs.Line.{entry_after}
 use Rattle.characters.specs.Class.{value_byte}
 use Rattle.characters.specs.declared.Due.TheVariants.{Start}
 use Rattle.characters.proofs.Utf8Laws.{fault-within}
-use borrow.Author.Rules.{rules}
 use Rattle.line.proofs.entry_after.Goals as goal
 use Rattle.line.proofs.entry_after.Goals.{Else-byte_at-ne61}
 

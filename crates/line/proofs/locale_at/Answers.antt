@@ -4,7 +4,6 @@ use borrow.Author.Tests.{eq-eqb, ne_eqb}
 use lib.ListN.{length}
 use Rattle.line.proofs.Locales.{parts_within}
 use Rattle.line.specs.Locale.{locale_end, empty_part, locale_at}
-use borrow.Author.Rules.{rules}
 use Prim.Native.Nat.{◌≤◌}
 use Rattle.line.proofs.locale_at.Goals as goal
 use Rattle.line.proofs.locale_at.Goals.{After-read_parts-p}

@@ -5,7 +5,6 @@ use borrow.Author.Tests.{eq-eqb, ne_eqb}
 use Prim.Native.Nat.{◌+◌}
 use Rattle.base.proofs.Scan.{inside}
 use Rattle.line.proofs.Locales.{locale-lent, postfix-lent, postfix-short}
-use borrow.Author.Rules.{rules}
 use Rattle.line.proofs.postfix.Goals as goal
 
 pub overflow_add-result : goal.overflow_add-result

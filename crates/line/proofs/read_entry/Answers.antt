@@ -1,6 +1,5 @@
 -- `read_entry` meets its contract: the entry follows the name. Assumes nothing.
 use Rattle.line.specs.Line.{read_entry}
-use borrow.Author.Rules.{rules}
 use Rattle.line.proofs.read_entry.Goals as goal
 
 pub returns-in-Name : goal.returns-in-Name

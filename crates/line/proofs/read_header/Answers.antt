@@ -3,7 +3,6 @@ use native.Mathlib.Omega.{arith}
 use borrow.Author.Tests.{eq-eqb, ne_eqb}
 use Rattle.base.proofs.Scan.{inside}
 use Rattle.line.specs.Line.{read_header}
-use borrow.Author.Rules.{rules}
 use Rattle.line.proofs.read_header.Goals as goal
 
 pub returns-then-e-eq1 : goal.returns-then-e-eq1

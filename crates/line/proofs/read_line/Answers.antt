@@ -4,7 +4,6 @@ use native.Mathlib.Nat.{zero-add}
 use mathlib.Core.Path.{sym, ◌∙◌}
 use borrow.Author.Tests.{eq-eqb, ne_eqb}
 use Rattle.line.proofs.FirstByte.{line-empty, line-comment, header-line, line-blank, line-entry}
-use borrow.Author.Rules.{rules}
 use Rattle.line.proofs.read_line.Goals as goal
 
 pub returns-then-s-eq0 : goal.returns-then-s-eq0

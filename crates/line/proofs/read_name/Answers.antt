@@ -5,7 +5,6 @@ use borrow.Author.Tests.{eq-eqb, ne_eqb}
 use Rattle.base.proofs.Scan.{inside}
 use Rattle.line.specs.Name.{read_name}
 use native.Mathlib.Nat.{zero-add}
-use borrow.Author.Rules.{rules}
 use Rattle.line.proofs.read_name.Goals as goal
 
 pub returns-then-key-eq0 : goal.returns-then-key-eq0

@@ -7,7 +7,6 @@ use Rattle.base.proofs.Span.{span-le}
 use Rattle.line.specs.Locale.{parts}
 use native.Mathlib.Nat.{zero-add}
 use Prim.Native.Nat.{◌+◌}
-use borrow.Author.Rules.{rules}
 use Rattle.line.proofs.read_parts.Goals as goal
 
 pub overflow_add-lang : goal.overflow_add-lang

@@ -1,6 +1,5 @@
 -- `marks::both` meets its contract. Assumes nothing.
 use mathlib.Core.Path.{sym, ◌∙◌}
-use borrow.Author.Rules.{rules}
 use Rattle.marks.proofs.both.Goals as goal
 
 pub returns-then-has : goal.returns-then-has

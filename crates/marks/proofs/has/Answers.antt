@@ -1,6 +1,5 @@
 -- `marks::has` meets its contract: the word and the bits are those of the hash. Assumes nothing.
 use Rattle.marks.specs.Marks.{has_bits}
-use borrow.Author.Rules.{rules}
 use Rattle.marks.proofs.has.Goals as goal
 
 pub returns : goal.returns

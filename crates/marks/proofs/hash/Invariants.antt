@@ -1,11 +1,8 @@
 -- `marks::hash` meets its contract: what the bytes from `i` on make of the hash is the whole answer. Assumes nothing.
-use borrow.Author.Rules.{rules}
-use native.Mathlib.Omega.{arith}
-use mathlib.Core.Path.{◌≡◌, refl, sym, ◌∙◌}
-use lib.ListN.{length, drop, length-drop}
+use mathlib.Core.Path.{◌≡◌}
+use lib.ListN.{length, drop}
 use Prim.Native.Nat.{◌-◌, ◌≤◌}
 use Rattle.marks.specs.Marks.{word_at, hash_from, name_hash}
-use Rattle.marks.proofs.Bytes.{four, hash-end}
 use Rattle.marks.proofs.hash.Given as goal
 
 abbrev pub invariant-loop-i : goal.invariant-loop-i

@@ -1,6 +1,5 @@
 -- `marks::mark` meets its contract: the bits of both hashes are asked and set. Assumes nothing.
 use Rattle.marks.proofs.Table.{marked_by}
-use borrow.Author.Rules.{rules}
 use Rattle.marks.proofs.mark.Goals as goal
 
 pub returns : goal.returns

@@ -1,6 +1,5 @@
 -- `marks::set` meets its contract: the word and the bits are those of the hash. Assumes nothing.
 use Rattle.marks.specs.Marks.{with_bits}
-use borrow.Author.Rules.{rules}
 use Rattle.marks.proofs.set.Goals as goal
 
 pub returns : goal.returns

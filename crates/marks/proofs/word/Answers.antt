@@ -3,7 +3,6 @@ use native.Mathlib.Omega.{arith}
 use mathlib.Core.Path.{refl}
 use Prim.Native.Nat.{◌-◌, ◌/◌}
 use lib.Bits.{and_le_r}
-use borrow.Author.Rules.{rules}
 use Rattle.marks.proofs.word.Goals as goal
 
 pub returns : goal.returns

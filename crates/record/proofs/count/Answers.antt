@@ -1,11 +1,8 @@
 -- `record::count` meets its contract: the records from the place on, and those counted before it, make the answer. Assumes nothing.
 use native.Mathlib.Omega.{arith}
-use borrow.Author.Rules.{rules}
 use mathlib.Core.Path.{◌∙◌, sym}
-use Prim.Native.Nat.{◌-◌}
-use lib.ListN.{length}
 use Rattle.record.proofs.Place.{front-damaged, front-record}
-use Rattle.record.proofs.Bodies.{Counting, count_long, count-begin, count-damaged, count-other, count_next, count-done}
+use Rattle.record.proofs.Bodies.{count_long, count-begin, count-damaged, count-other, count_next, count-done}
 use Rattle.record.proofs.count.Goals as goal
 
 pub returns-in_default : goal.returns-in_default

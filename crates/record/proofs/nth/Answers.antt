@@ -1,11 +1,8 @@
 -- `record::nth` meets its contract: the bodies left to pass, from the place on, lead to the one sought. Assumes nothing.
 use native.Mathlib.Omega.{arith}
-use borrow.Author.Rules.{rules}
 use mathlib.Core.Path.{◌∙◌, sym}
-use Prim.Native.Nat.{◌-◌}
-use lib.ListN.{length}
 use Rattle.record.proofs.Place.{front-damaged, front-record}
-use Rattle.record.proofs.Seek.{Seeking, seek-begin, seek-damaged, seek-here, seek-next, seek-done}
+use Rattle.record.proofs.Seek.{seek-begin, seek-damaged, seek-here, seek-next, seek-done}
 use Rattle.record.proofs.nth.Goals as goal
 
 pub returns-in_default : goal.returns-in_default

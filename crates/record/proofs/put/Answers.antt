@@ -2,7 +2,6 @@
 use native.Mathlib.Omega.{arith}
 use Rattle.record.specs.Record.{Rec}
 use Rattle.record.proofs.Written.{record-written}
-use borrow.Author.Rules.{rules}
 use Rattle.record.proofs.put.Goals as goal
 
 pub returns : goal.returns

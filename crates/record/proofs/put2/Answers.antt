@@ -1,7 +1,6 @@
 -- `record::put2` meets its contract: two stores are the two bytes. Assumes nothing.
 use lib.Seq.{sets-eq}
 use Rattle.record.specs.Number.{little_endian}
-use borrow.Author.Rules.{rules}
 use Rattle.record.proofs.put2.Goals as goal
 
 pub returns : goal.returns

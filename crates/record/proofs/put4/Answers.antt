@@ -3,7 +3,6 @@ use native.Mathlib.Omega.{arith}
 use lib.ListN.{length-set}
 use lib.Seq.{sets-eq}
 use Rattle.record.specs.Number.{little_endian}
-use borrow.Author.Rules.{rules}
 use Rattle.record.proofs.put4.Goals as goal
 
 pub returns : goal.returns

@@ -1,6 +1,5 @@
 -- `record::put_head` meets its contract: the two bytes of the kind behind the four of the length. Assumes nothing.
 use Rattle.record.proofs.Written.{head-written}
-use borrow.Author.Rules.{rules}
 use Rattle.record.proofs.put_head.Goals as goal
 
 pub returns : goal.returns

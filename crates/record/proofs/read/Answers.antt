@@ -2,7 +2,6 @@
 use native.Mathlib.Omega.{arith}
 use lib.ListN.{length-drop}
 use Rattle.record.proofs.Place.{whole-if, no-head, no_length, no_bytes, damaged-at, record-there}
-use borrow.Author.Rules.{rules}
 use Rattle.record.proofs.read.Goals as goal
 
 pub returns : goal.returns

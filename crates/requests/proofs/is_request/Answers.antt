@@ -1,5 +1,4 @@
 -- `requests::is_request` meets its contract: a record is a request where its fields are read. Assumes nothing.
-use borrow.Author.Rules.{rules}
 use Rattle.requests.proofs.is_request.Goals as goal
 
 pub returns-in-Damaged : goal.returns-in-Damaged

@@ -1,10 +1,5 @@
 -- `requests::read` meets its contract: field by field, by the kind. Assumes nothing.
-use Prim.Native.Nat.{ℕ}
 use native.Mathlib.Omega.{arith}
-use mathlib.Core.List.{List}
-use borrow.Author.Rules.{rules}
-use Rattle.requests.specs.declared.Field.TheVariants.{End}
-use Rattle.requests.specs.Places.{Ends}
 use Rattle.requests.proofs.Bodies.{group-short, key-short, two-more, two, no_kind, text-short, three-more, three}
 use Rattle.requests.proofs.read.Goals as goal
 

@@ -1,12 +1,10 @@
 -- `requests::sound` meets its contract: the records from the place on decide. Assumes nothing.
 use native.Mathlib.Omega.{arith}
-use borrow.Author.Rules.{rules}
 use mathlib.Core.Path.{◌∙◌, sym}
-use Prim.Native.Nat.{ℕ, ◌-◌}
+use Prim.Native.Nat.{ℕ}
 use mathlib.Core.List.{List}
-use lib.ListN.{length}
 use Rattle.record.proofs.Place.{Stands, front-damaged, front-record}
-use Rattle.requests.proofs.Judging.{Judging, judge-long, judge-begin, judge-damaged, judge-other, judge-next, judge-done}
+use Rattle.requests.proofs.Judging.{judge-long, judge-begin, judge-damaged, judge-other, judge-next, judge-done}
 use Rattle.requests.proofs.sound.Goals as goal
 use Rattle.requests.proofs.sound.Goals.{In-Record}
 

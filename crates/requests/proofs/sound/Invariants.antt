@@ -1,12 +1,7 @@
 -- `requests::sound` meets its contract: the records from the place on decide. Assumes nothing.
-use native.Mathlib.Omega.{arith}
-use borrow.Author.Rules.{rules}
-use mathlib.Core.Path.{◌∙◌, sym}
-use Prim.Native.Nat.{ℕ, ◌-◌}
-use mathlib.Core.List.{List}
+use Prim.Native.Nat.{◌-◌}
 use lib.ListN.{length}
-use Rattle.record.proofs.Place.{Stands, front-damaged, front-record}
-use Rattle.requests.proofs.Judging.{Judging, judge-long, judge-begin, judge-damaged, judge-other, judge-next, judge-done}
+use Rattle.requests.proofs.Judging.{Judging}
 use Rattle.requests.proofs.sound.Given as goal
 
 abbrev pub invariant-loop-at : goal.invariant-loop-at

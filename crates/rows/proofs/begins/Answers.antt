@@ -2,7 +2,6 @@
 use native.Mathlib.Omega.{arith}
 use mathlib.Core.Path.{sym}
 use lib.Seq.{length-take-le}
-use borrow.Author.Rules.{rules}
 use Rattle.rows.proofs.Lines.{too_short}
 use Rattle.rows.proofs.begins.Goals as goal
 

@@ -3,9 +3,7 @@ use borrow.Author.Tests.{eq-eqb, ne_eqb}
 use native.Mathlib.Omega.{arith}
 use mathlib.Core.Path.{◌≡◌, refl, sym, ◌∙◌}
 use mathlib.Core.Bool.{and-false, and-true}
-use Prim.Native.Nat.{◌-◌, ◌≤◌}
 use lib.ListN.{take, drop}
-use lib.Dec.{eqb}
 use Rattle.base.specs.Lists.{all}
 use Rattle.base.proofs.Span.{all-next}
 use Rattle.rows.specs.Find.{no_lf}

@@ -1,13 +1,9 @@
 -- `rows::clear` meets its contract: while n is 0 no LF has been passed. Assumes nothing.
-use borrow.Author.Tests.{eq-eqb, ne_eqb}
-use native.Mathlib.Omega.{arith}
-use mathlib.Core.Path.{◌≡◌, refl, sym, ◌∙◌}
-use mathlib.Core.Bool.{and-false, and-true}
+use mathlib.Core.Path.{◌≡◌}
 use Prim.Native.Nat.{◌-◌, ◌≤◌}
 use lib.ListN.{take, drop}
 use lib.Dec.{eqb}
 use Rattle.base.specs.Lists.{all}
-use Rattle.base.proofs.Span.{all-next}
 use Rattle.rows.specs.Find.{no_lf}
 use Rattle.rows.proofs.clear.Given as goal
 

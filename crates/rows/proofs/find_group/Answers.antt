@@ -2,13 +2,9 @@
 use borrow.Author.Rules.{rules}
 use native.Mathlib.Omega.{arith}
 use mathlib.Core.Path.{sym, ◌∙◌}
-use mathlib.Core.List.{◌++◌}
-use lib.ListN.{length}
 use borrow.Author.Tests.{eq-eqb, ne_eqb}
-use Prim.Native.Nat.{◌-◌}
 use Rattle.rows.proofs.Step.{end-le}
-use Rattle.rows.proofs.Seek.{Seek, finding, seek-start, seek-header, title-end, group-plain, group-other, group-hit}
-use Rattle.rows.specs.Rows.{read_rows}
+use Rattle.rows.proofs.Seek.{finding, seek-start, seek-header, title-end, group-plain, group-other, group-hit}
 use Rattle.rows.specs.Title.{Group}
 use Rattle.rows.proofs.find_group.Goals as goal
 

@@ -2,12 +2,9 @@
 use borrow.Author.Rules.{rules}
 use native.Mathlib.Omega.{arith}
 use Rattle.rows.proofs.find_key.Goals.{then-inside+else-is_named, else-inside}
-use lib.ListN.{length}
-use Prim.Native.Nat.{◌-◌}
-use Rattle.rows.specs.Rows.{read_rows}
 use Rattle.rows.specs.Title.{Key}
 use Rattle.rows.proofs.Step.{end-le}
-use Rattle.rows.proofs.Seek.{value-fits, SeekIn, finding, seek-good, title-end, in_start, key-hit, key-other}
+use Rattle.rows.proofs.Seek.{value-fits, finding, seek-good, title-end, in_start, key-hit, key-other}
 use Rattle.rows.proofs.find_key.Goals as goal
 
 pub slice_bounds-l-end : goal.slice_bounds-l-end

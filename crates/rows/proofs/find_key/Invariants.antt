@@ -1,13 +1,9 @@
 -- `rows::find_key` meets its contract: the rows from `p` on have the answer. Assumes nothing.
-use borrow.Author.Rules.{rules}
-use native.Mathlib.Omega.{arith}
-use mathlib.Core.Logic.{⊎_elim}
 use lib.ListN.{length}
 use Prim.Native.Nat.{◌-◌}
 use Rattle.rows.specs.Rows.{read_rows}
 use Rattle.rows.specs.Title.{Key}
-use Rattle.rows.proofs.Step.{end-le}
-use Rattle.rows.proofs.Seek.{value-fits, SeekIn, finding, seek-good, title-end, in_start, key-hit, key-other}
+use Rattle.rows.proofs.Seek.{SeekIn, finding}
 use Rattle.rows.proofs.find_key.Given as goal
 
 abbrev pub invariant-loop-p : goal.invariant-loop-p

@@ -1,5 +1,4 @@
 -- `rows::is_inside` meets its contract: a good line that starts with `[` is a header, and another leaves the group. Assumes nothing.
-use borrow.Author.Rules.{rules}
 use borrow.Author.Tests.{eq-eqb, ne_eqb}
 use native.Mathlib.Omega.{arith}
 use mathlib.Core.Path.{sym, ◌∙◌}

@@ -4,7 +4,6 @@ use mathlib.Core.Path.{sym, ◌∙◌}
 use mathlib.Core.Bool.{and-false, and-true}
 use lib.ListN.{length, take}
 use lib.Seq.{length-take-le}
-use borrow.Author.Rules.{rules}
 use Rattle.base.specs.Lists.{same}
 use Rattle.base.proofs.Tail.{tail-lent}
 use Rattle.rows.proofs.Lines.{too_short, joined_same}

@@ -2,7 +2,6 @@
 use mathlib.Core.Path.{sym, ◌∙◌}
 use Rattle.rows.proofs.Lines.{not-front, front}
 use Rattle.line.proofs.Bounds.{name-within}
-use borrow.Author.Rules.{rules}
 use Rattle.rows.proofs.is_named.Goals as goal
 
 pub returns-in-Name : goal.returns-in-Name

@@ -1,10 +1,9 @@
 -- `rows::line_end` meets its contract: what is left to find from `i` is the whole answer. Assumes nothing.
 use Rattle.rows.proofs.Step.{line-none, line-near, line-skip}
-use borrow.Author.Rules.{rules}
 use native.Mathlib.Omega.{arith}
-use mathlib.Core.Path.{◌≡◌, refl, sym, ◌∙◌}
+use mathlib.Core.Path.{refl, sym, ◌∙◌}
 use lib.ListN.{length, drop}
-use Prim.Native.Nat.{◌+◌, ◌-◌, ◌<◌}
+use Prim.Native.Nat.{◌+◌, ◌<◌}
 use Rattle.rows.specs.Find.{line_length}
 use Rattle.rows.proofs.line_end.Goals as goal
 use Rattle.rows.proofs.line_end.Goals.{Else-clear}

@@ -2,10 +2,7 @@
 use Rattle.rows.proofs.Step.{line-none, line-ends, line-goes}
 use borrow.Author.Rules.{rules}
 use native.Mathlib.Omega.{arith}
-use mathlib.Core.Path.{◌≡◌, refl}
-use lib.ListN.{length, drop}
-use Prim.Native.Nat.{◌+◌, ◌-◌}
-use Rattle.rows.specs.Find.{line_length}
+use mathlib.Core.Path.{refl}
 use Rattle.rows.proofs.near_end.Goals as goal
 
 pub returns-then-s-i-eq10 : goal.returns-then-s-i-eq10

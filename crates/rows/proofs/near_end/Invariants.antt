@@ -1,8 +1,5 @@
 -- `rows::near_end` meets its contract: what is left to find from `i` is the whole answer. Assumes nothing.
-use Rattle.rows.proofs.Step.{line-none, line-ends, line-goes}
-use borrow.Author.Rules.{rules}
-use native.Mathlib.Omega.{arith}
-use mathlib.Core.Path.{◌≡◌, refl}
+use mathlib.Core.Path.{◌≡◌}
 use lib.ListN.{length, drop}
 use Prim.Native.Nat.{◌+◌, ◌-◌}
 use Rattle.rows.specs.Find.{line_length}

@@ -1,10 +1,7 @@
 -- `rows::next_lf` meets its contract: what is left to find from `i` is the whole answer, and it is inside. Assumes nothing.
 use Rattle.rows.proofs.Step.{line-ends, line-goes}
 use native.Mathlib.Omega.{arith}
-use mathlib.Core.Path.{◌≡◌, refl}
-use lib.ListN.{length, drop}
-use Prim.Native.Nat.{◌+◌, ◌-◌}
-use Rattle.rows.specs.Find.{line_length}
+use mathlib.Core.Path.{refl}
 use Rattle.rows.proofs.next_lf.Goals as goal
 
 pub loop-i-preserved : goal.loop-i-preserved

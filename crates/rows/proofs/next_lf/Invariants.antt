@@ -1,7 +1,5 @@
 -- `rows::next_lf` meets its contract: what is left to find from `i` is the whole answer, and it is inside. Assumes nothing.
-use Rattle.rows.proofs.Step.{line-ends, line-goes}
-use native.Mathlib.Omega.{arith}
-use mathlib.Core.Path.{◌≡◌, refl}
+use mathlib.Core.Path.{◌≡◌}
 use lib.ListN.{length, drop}
 use Prim.Native.Nat.{◌+◌, ◌-◌}
 use Rattle.rows.specs.Find.{line_length}

@@ -3,9 +3,8 @@ use borrow.Author.Rules.{rules}
 use borrow.Author.Tests.{eq-eqb, ne_eqb}
 use Rattle.base.proofs.Scan.{here, done}
 use Rattle.base.proofs.Tests.{by-test, same_true}
-use mathlib.Core.Path.{◌≡◌, refl, sym, ap}
-use lib.ListN.{length, drop}
-use Prim.Native.Nat.{◌-◌}
+use mathlib.Core.Path.{refl, sym, ap}
+use lib.ListN.{length}
 use Rattle.base.specs.Lists.{same}
 use Rattle.rows.proofs.same.Goals as goal
 

@@ -1,9 +1,5 @@
 -- `rows::same` meets its contract: what is left to compare is the whole answer. Assumes nothing.
-use borrow.Author.Rules.{rules}
-use borrow.Author.Tests.{eq-eqb, ne_eqb}
-use Rattle.base.proofs.Scan.{here, done}
-use Rattle.base.proofs.Tests.{by-test, same_true}
-use mathlib.Core.Path.{◌≡◌, refl, sym, ap}
+use mathlib.Core.Path.{◌≡◌}
 use lib.ListN.{length, drop}
 use Prim.Native.Nat.{◌-◌}
 use Rattle.base.specs.Lists.{same}

@@ -1,5 +1,4 @@
 -- `rows::value_start` meets its contract: each arm is given the reading that it matches. Assumes nothing.
-use borrow.Author.Rules.{rules}
 use Rattle.rows.proofs.value_start.Goals as goal
 
 pub returns-in-Entry : goal.returns-in-Entry

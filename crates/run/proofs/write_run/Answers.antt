@@ -7,7 +7,6 @@ use Rattle.run.specs.Run.{run_of}
 use Rattle.run.specs.Step.{put_of, items_in}
 use Rattle.text.proofs.RoomLaws.{spend-was, spend-lacks}
 use Rattle.run.proofs.Arguments.{records_of}
-use borrow.Author.Rules.{rules}
 use Rattle.run.proofs.write_run.Goals as goal
 
 pub put_run-requires : goal.put_run-requires

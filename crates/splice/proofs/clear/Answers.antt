@@ -1,10 +1,9 @@
 -- `splice::clear` meets its contract: the zeros before the place are written. Assumes nothing.
 use mathlib.Core.Path.{sym}
-use Prim.Native.Nat.{◌-◌, ◌≤◌, ◌<◌}
+use Prim.Native.Nat.{◌-◌, ◌<◌}
 use native.Mathlib.Omega.{arith}
-use borrow.Author.Rules.{rules}
-use lib.ListN.{replicate, get_or-replicate, length-replicate}
-use Rattle.splice.proofs.Move.{Copied, copy_begin, copy-next, copy-whole}
+use lib.ListN.{get_or-replicate, length-replicate}
+use Rattle.splice.proofs.Move.{copy_begin, copy-next, copy-whole}
 use Rattle.splice.proofs.clear.Goals as goal
 
 pub loop-i-preserved : goal.loop-i-preserved

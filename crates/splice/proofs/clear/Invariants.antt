@@ -1,10 +1,7 @@
 -- `splice::clear` meets its contract: the zeros before the place are written. Assumes nothing.
-use mathlib.Core.Path.{sym}
-use Prim.Native.Nat.{◌-◌, ◌≤◌, ◌<◌}
-use native.Mathlib.Omega.{arith}
-use borrow.Author.Rules.{rules}
-use lib.ListN.{replicate, get_or-replicate, length-replicate}
-use Rattle.splice.proofs.Move.{Copied, copy_begin, copy-next, copy-whole}
+use Prim.Native.Nat.{◌-◌, ◌≤◌}
+use lib.ListN.{replicate}
+use Rattle.splice.proofs.Move.{Copied}
 use Rattle.splice.proofs.clear.Given as goal
 
 abbrev pub invariant-loop-i : goal.invariant-loop-i

@@ -1,11 +1,9 @@
 -- `splice::move_down` meets its contract: what is still to be read lies past the copy. Assumes nothing.
 use mathlib.Core.Path.{refl}
-use Prim.Native.Nat.{◌-◌, ◌≤◌}
 use native.Mathlib.Omega.{arith}
-use borrow.Author.Rules.{rules}
-use lib.ListN.{drop, length-drop}
+use lib.ListN.{length-drop}
 use lib.Seq.{get_or-drop}
-use Rattle.splice.proofs.Move.{Copied, copy_begin, copy-next, copy-past, copy_done}
+use Rattle.splice.proofs.Move.{copy_begin, copy-next, copy-past, copy_done}
 use Rattle.splice.proofs.move_down.Goals as goal
 
 pub loop-i-preserved : goal.loop-i-preserved

@@ -1,11 +1,7 @@
 -- `splice::move_down` meets its contract: what is still to be read lies past the copy. Assumes nothing.
-use mathlib.Core.Path.{refl}
 use Prim.Native.Nat.{◌-◌, ◌≤◌}
-use native.Mathlib.Omega.{arith}
-use borrow.Author.Rules.{rules}
-use lib.ListN.{drop, length-drop}
-use lib.Seq.{get_or-drop}
-use Rattle.splice.proofs.Move.{Copied, copy_begin, copy-next, copy-past, copy_done}
+use lib.ListN.{drop}
+use Rattle.splice.proofs.Move.{Copied}
 use Rattle.splice.proofs.move_down.Given as goal
 
 abbrev pub invariant-loop-i : goal.invariant-loop-i

@@ -1,7 +1,6 @@
 -- `splice::replace` meets its contract: the tail moved, the new bytes and the zeros make the edited file. Assumes nothing.
 use Prim.Native.Nat.{◌+◌, ◌-◌}
 use native.Mathlib.Omega.{arith}
-use borrow.Author.Rules.{rules}
 use Rattle.splice.proofs.Whole.{whole}
 use Rattle.splice.proofs.replace.Goals as goal
 

@@ -1,6 +1,5 @@
 -- `splice::shift` meets its contract: up, down, or where the bytes stand. Assumes nothing.
 use native.Mathlib.Omega.{arith}
-use borrow.Author.Rules.{rules}
 use Rattle.splice.proofs.Move.{over-same}
 use Rattle.splice.proofs.shift.Goals as goal
 

@@ -1,9 +1,6 @@
 -- `splice::stands` meets its contract: what is left to compare decides. Assumes nothing.
 use native.Mathlib.Omega.{arith}
-use borrow.Author.Rules.{rules}
-use Prim.Native.Nat.{◌-◌}
-use lib.ListN.{length}
-use Rattle.splice.proofs.Standing.{Comparing, stands-outside, compare-begin, compare-differs, compare-goes, compare-ends}
+use Rattle.splice.proofs.Standing.{stands-outside, compare-begin, compare-differs, compare-goes, compare-ends}
 use Rattle.splice.proofs.stands.Goals as goal
 
 pub returns-then-file-place : goal.returns-then-file-place

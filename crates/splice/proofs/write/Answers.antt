@@ -1,5 +1,4 @@
 -- `splice::write` meets its contract: a copy to the front of a tail. Assumes nothing.
-use borrow.Author.Rules.{rules}
 use Rattle.base.proofs.Over.{write-tail}
 use Rattle.splice.proofs.write.Goals as goal
 

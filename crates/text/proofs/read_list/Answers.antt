@@ -4,7 +4,6 @@ use Rattle.text.proofs.Elements.{list-refused, list-short, list-fits, list_writt
 use Rattle.text.specs.Step.{room_of}
 use Rattle.text.specs.declared.Left.{Left}
 use Rattle.fault.specs.Answer.{given}
-use borrow.Author.Rules.{rules}
 use Rattle.text.proofs.read_list.Goals as goal
 
 pub write-requires : goal.write-requires

@@ -6,7 +6,6 @@ use Rattle.text.specs.Step.{measured}
 use Rattle.fault.proofs.Answers.{then-refused}
 use lib.ListN.{length}
 use Rattle.text.proofs.OutputLaws.{given-length, leaves-refused, leaves-full, leaves-written}
-use borrow.Author.Rules.{rules}
 use Rattle.text.proofs.read_text.Goals as goal
 
 pub returns-then-out-n : goal.returns-then-out-n

@@ -1,7 +1,6 @@
 -- `spend` meets its contract: the tests that led to each return say which case of the definition holds. Assumes nothing.
 use borrow.Author.Tests.{le-leb, lt-leb}
 use Rattle.text.specs.Step.{spend}
-use borrow.Author.Rules.{rules}
 use Rattle.text.proofs.spend.Goals as goal
 
 pub returns-then-room-n : goal.returns-then-room-n

@@ -7,7 +7,6 @@ use Rattle.fault.specs.declared.Fault.TheVariants.{UnfitText}
 use Rattle.text.proofs.OutputLaws.{leaves-refused, leaves-full, leaves-written}
 use Rattle.text.proofs.Writing.{fit_written, unfit-written}
 use Rattle.fault.specs.Answer.{accepted}
-use borrow.Author.Rules.{rules}
 use Rattle.text.proofs.write_text.Goals as goal
 
 pub returns-then-out-size : goal.returns-then-out-size

@@ -1,6 +1,5 @@
 -- `after` meets its contract: what a line's reading tells lies in the file. Assumes nothing.
 use native.Mathlib.Omega.{arith}
-use borrow.Author.Rules.{rules}
 use borrow.Author.Tests.{eq-eqb, ne_eqb}
 use Rattle.wellformed.proofs.Places.{reads-within, key-lies}
 use Rattle.wellformed.proofs.after.Goals as goal

@@ -1,5 +1,4 @@
 -- `after_header` meets its contract. Assumes nothing.
-use borrow.Author.Rules.{rules}
 use borrow.Author.Tests.{eq-eqb, ne_eqb}
 use Rattle.wellformed.proofs.after_header.Goals as goal
 

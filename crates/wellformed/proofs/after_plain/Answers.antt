@@ -1,5 +1,4 @@
 -- `after_plain` meets its contract: the key still to come is compared. Assumes nothing.
-use borrow.Author.Rules.{rules}
 use Rattle.wellformed.proofs.after_plain.Goals as goal
 
 pub returns-then-same_bytes : goal.returns-then-same_bytes

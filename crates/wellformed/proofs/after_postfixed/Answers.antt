@@ -1,5 +1,4 @@
 -- `after_postfixed` meets its contract: the key is compared with the last, then with the one still to come. Assumes nothing.
-use borrow.Author.Rules.{rules}
 use borrow.Author.Tests.{eq-eqb, ne_eqb}
 use Rattle.wellformed.proofs.after_postfixed.Goals as goal
 

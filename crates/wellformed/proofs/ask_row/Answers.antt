@@ -1,6 +1,5 @@
 -- `ask_row` meets its contract: the plain key is the entry's own, the last one, or looked for. Assumes nothing.
 use mathlib.Core.Path.{sym, ◌∙◌}
-use borrow.Author.Rules.{rules}
 use borrow.Author.Tests.{eq-eqb, ne_eqb}
 use Rattle.rows.specs.Rows.{read_rows}
 use Rattle.rows.specs.Title.{find_row, Key}

@@ -1,7 +1,6 @@
 -- `check_as` meets its contract: 1 is asked first. Assumes nothing.
 use borrow.Author.Tests.{le-leb, lt-leb}
 use Rattle.wellformed.proofs.Accepts.{check-rows}
-use borrow.Author.Rules.{rules}
 use Rattle.wellformed.proofs.check_as.Goals as goal
 
 pub returns-then-file-gt-FILE_MOST : goal.returns-then-file-gt-FILE_MOST

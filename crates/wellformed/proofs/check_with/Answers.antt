@@ -2,7 +2,6 @@
 use mathlib.Core.Path.{sym, ap, ◌∙◌}
 use Rattle.wellformed.specs.Pass.{scanned}
 use Rattle.wellformed.proofs.Accepts.{titled-good}
-use borrow.Author.Rules.{rules}
 use Rattle.wellformed.proofs.check_with.Goals as goal
 
 pub plain_keys-requires : goal.plain_keys-requires

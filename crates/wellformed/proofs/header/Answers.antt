@@ -1,8 +1,6 @@
 -- `header` meets its contract: a name without a mark does not stand before, and any other is looked for. Assumes nothing.
 use mathlib.Core.Path.{refl, sym, ◌∙◌}
 use lib.ListN.{take}
-use lib.Seq.{length-take-le}
-use borrow.Author.Rules.{rules}
 use Rattle.rows.specs.Rows.{read_rows}
 use Rattle.rows.specs.Title.{same_title, find_row, Group}
 use Rattle.wellformed.specs.Pass.{title_after}

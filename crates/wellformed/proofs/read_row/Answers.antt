@@ -2,7 +2,6 @@
 use mathlib.Core.Path.{refl, sym}
 use native.Mathlib.Omega.{arith}
 use lib.Seq.{length-take-le}
-use borrow.Author.Rules.{rules}
 use Rattle.wellformed.proofs.Places.{line-length, reads-within}
 use Rattle.wellformed.proofs.read_row.Goals as goal
 

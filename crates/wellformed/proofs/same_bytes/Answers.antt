@@ -1,5 +1,4 @@
 -- `same_bytes` meets its contract. Assumes nothing.
-use borrow.Author.Rules.{rules}
 use Rattle.wellformed.proofs.same_bytes.Goals as goal
 
 pub returns : goal.returns

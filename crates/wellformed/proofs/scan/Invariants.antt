@@ -1,16 +1,10 @@
 -- `scan` meets its contract: what the rows from `p` on say is the whole answer, and no row before lacks its plain key unless there is doubt. Assumes nothing.
-use mathlib.Core.Path.{◌≡◌, refl, ap, ◌∙◌}
+use mathlib.Core.Path.{◌≡◌}
 use Prim.Native.Nat.{◌+◌, ◌-◌}
-use native.Mathlib.Omega.{arith}
-use mathlib.Core.Bool.{false}
 use lib.ListN.{length}
-use borrow.Author.Rules.{rules}
-use Rattle.base.proofs.Tests.{no}
-use Rattle.rows.proofs.Step.{start-le, end-le}
 use Rattle.wellformed.specs.Pass.{bytes}
-use Rattle.wellformed.proofs.Places.{reads}
-use Rattle.wellformed.proofs.Checking.{Checking, checking-start, marks-length, marks-tell, none-bad, checking-fault, checking-next, end_none, end-some}
-use Rattle.wellformed.proofs.Plain.{Held, held_start, held_next, held-end}
+use Rattle.wellformed.proofs.Checking.{Checking}
+use Rattle.wellformed.proofs.Plain.{Held}
 use Rattle.wellformed.proofs.scan.Given as goal
 
 abbrev pub invariant-loop-p : goal.invariant-loop-p

@@ -14,7 +14,6 @@ use Rattle.actions.specs.Actions.{action_group}
 use Rattle.actions.specs.Step.{is_listed_at}
 use Rattle.actions.proofs.Groups.{group-none, group-some}
 use Rattle.actions.proofs.Labelling.{label_value, left_out, label-wrong, label-left}
-use borrow.Author.Rules.{rules}
 use Rattle.actions.proofs.labels.action_left.Goals as goal
 use Rattle.actions.proofs.labels.action_left.Goals.{After-label}
 

@@ -8,7 +8,6 @@ use Rattle.actions.specs.Actions.{action_group}
 use Rattle.actions.specs.Step.{is_listed_at}
 use Rattle.actions.proofs.Groups.{group-none, group-some}
 use Rattle.actions.proofs.Labelling.{label_value, nothing_put, label-sound, id-fits, label-fits, both-put}
-use borrow.Author.Rules.{rules}
 use Rattle.actions.proofs.labels.put_action.Goals as goal
 use Rattle.actions.proofs.labels.put_action.Goals.{After-label, Else-group-eq0}
 

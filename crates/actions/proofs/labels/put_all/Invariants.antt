@@ -1,11 +1,8 @@
 -- `labels::put_all` meets its contract: what is written and the records of those from `i` on are the whole. Assumes nothing.
-use native.Mathlib.Omega.{arith}
 use Prim.Native.Nat.{◌-◌}
 use lib.ListN.{length}
-use Rattle.text.proofs.Elements.{element-end}
 use Rattle.rows.specs.Rows.{read_rows}
-use Rattle.actions.proofs.Labelling.{Filling, fill-all, filled, next-sound, next-room, fill-next}
-use borrow.Author.Rules.{rules}
+use Rattle.actions.proofs.Labelling.{Filling}
 use Rattle.actions.proofs.labels.put_all.Given as goal
 
 abbrev pub invariant-loop-i : goal.invariant-loop-i

@@ -8,7 +8,6 @@ use Rattle.rows.specs.Rows.{read_rows}
 use Rattle.actions.specs.Actions.{listed_from, labelled}
 use Rattle.actions.specs.Step.{elements}
 use Rattle.actions.proofs.Labelling.{records-wrong, records-short, records-fit, records-put}
-use borrow.Author.Rules.{rules}
 use Rattle.actions.proofs.labels.write_all.Goals as goal
 
 pub put_all-requires : goal.put_all-requires

@@ -1,6 +1,5 @@
 -- `listed::group_asked` meets its contract: an action is listed if it is an element. Assumes nothing.
 use mathlib.Core.Path.{sym, ◌∙◌}
-use borrow.Author.Rules.{rules}
 use Rattle.actions.proofs.listed.group_asked.Goals as goal
 
 pub returns-then-is_element : goal.returns-then-is_element

@@ -7,7 +7,6 @@ use Rattle.base.specs.Lists.{part}
 use Rattle.rows.specs.Rows.{read_rows}
 use Rattle.actions.specs.Actions.{is_action}
 use Rattle.actions.proofs.Groups.{group-none}
-use borrow.Author.Rules.{rules}
 use Rattle.actions.proofs.listed.group_at.Goals as goal
 
 pub returns-then-group-eq0 : goal.returns-then-group-eq0

@@ -7,7 +7,6 @@ use Rattle.rows.specs.Title.{Group, Key, find_row}
 use Rattle.rows.proofs.Told.{told-nothing, told-row}
 use Rattle.actions.specs.Actions.{action_group}
 use Rattle.actions.proofs.Groups.{Titled, titled, other-form, no_header, no_name, an-action}
-use borrow.Author.Rules.{rules}
 use Rattle.actions.proofs.listed.group_of.Goals as goal
 use Rattle.actions.proofs.listed.group_of.Goals.{In-Row}
 

@@ -1,13 +1,9 @@
 -- `listed::is_element` meets its contract: the elements from `i` on have the answer. Assumes nothing.
-use native.Mathlib.Omega.{arith}
-use mathlib.Core.Path.{◌≡◌, refl, sym, ◌∙◌}
+use mathlib.Core.Path.{◌≡◌}
 use Prim.Native.Nat.{◌-◌}
 use lib.ListN.{length, drop}
 use Rattle.base.specs.Lists.{same, any}
-use Rattle.text.proofs.Elements.{element-end, split}
 use Rattle.actions.specs.Step.{elements}
-use Rattle.actions.proofs.Elements.{elements-done}
-use borrow.Author.Rules.{rules}
 use Rattle.actions.proofs.listed.is_element.Given as goal
 
 abbrev pub invariant-loop-i : goal.invariant-loop-i

@@ -6,7 +6,6 @@ use Rattle.rows.specs.Title.{Key, desktop_entry, find_row}
 use Rattle.rows.proofs.Told.{told-nothing}
 use Rattle.exec.proofs.Values.{key-value}
 use Rattle.actions.specs.Actions.{actions_value}
-use borrow.Author.Rules.{rules}
 use Rattle.actions.proofs.listed.value.Goals as goal
 
 pub returns-in_default : goal.returns-in_default

@@ -1,13 +1,10 @@
 -- `classes::bare_end` meets its contract: what is left from `i` on is the whole answer. Assumes nothing.
 use borrow.Author.Rules.{rules}
 use native.Mathlib.Omega.{arith}
-use mathlib.Core.Path.{◌≡◌, refl}
+use mathlib.Core.Path.{refl}
 use Rattle.base.proofs.Scan.{here, done}
 use borrow.Author.Tests.{eq-eqb, ne_eqb}
-use lib.ListN.{length, drop}
-use Prim.Native.Nat.{◌+◌, ◌-◌}
 use Rattle.characters.specs.Bare.{bare_length}
-use mathlib.Core.Bool.{false}
 use Rattle.characters.proofs.classes.bare_end.Goals as goal
 
 pub loop-i-init : goal.loop-i-init

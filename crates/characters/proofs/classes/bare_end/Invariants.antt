@@ -1,9 +1,5 @@
 -- `classes::bare_end` meets its contract: what is left from `i` on is the whole answer. Assumes nothing.
-use borrow.Author.Rules.{rules}
-use native.Mathlib.Omega.{arith}
-use mathlib.Core.Path.{◌≡◌, refl}
-use Rattle.base.proofs.Scan.{here, done}
-use borrow.Author.Tests.{eq-eqb, ne_eqb}
+use mathlib.Core.Path.{◌≡◌}
 use lib.ListN.{length, drop}
 use Prim.Native.Nat.{◌+◌, ◌-◌}
 use Rattle.characters.specs.Bare.{bare_length}

@@ -1,8 +1,7 @@
 -- `classes::is_group` meets its contract: the tests that led to each return say which case of the definition holds. Assumes nothing.
 use borrow.Author.Tests.{eq-eqb, ne_eqb}
 use mathlib.Core.Path.{sym, ◌∙◌}
-use Rattle.characters.specs.Class.{group_byte, within}
-use borrow.Author.Rules.{rules}
+use Rattle.characters.specs.Class.{group_byte}
 use Rattle.characters.proofs.classes.is_group.Goals as goal
 
 pub returns-then-b-eq91 : goal.returns-then-b-eq91

@@ -1,5 +1,4 @@
 -- `classes::is_in` meets its contract: each arm is the class of its name. Assumes nothing.
-use borrow.Author.Rules.{rules}
 use Rattle.characters.proofs.classes.is_in.Goals as goal
 
 pub returns-in-Key : goal.returns-in-Key

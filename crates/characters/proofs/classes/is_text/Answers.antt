@@ -2,7 +2,6 @@
 use borrow.Author.Tests.{eq-eqb, ne_eqb}
 use mathlib.Core.Path.{sym, ◌∙◌}
 use Rattle.characters.specs.Class.{text_byte}
-use borrow.Author.Rules.{rules}
 use Rattle.characters.proofs.classes.is_text.Goals as goal
 
 pub returns-then-is_value : goal.returns-then-is_value

@@ -1,6 +1,5 @@
 -- `classes::is_value` meets its contract: it is the definition. Assumes nothing.
-use Rattle.characters.specs.Class.{value_byte, within}
-use borrow.Author.Rules.{rules}
+use Rattle.characters.specs.Class.{value_byte}
 use Rattle.characters.proofs.classes.is_value.Goals as goal
 
 pub returns : goal.returns

@@ -1,9 +1,7 @@
 -- `classes::key_end` meets its contract: what is left to pass from `i` is the whole answer. Assumes nothing.
-use borrow.Author.Rules.{rules}
-use mathlib.Core.Path.{sym, ◌∙◌}
 use lib.ListN.{length}
 use Prim.Native.Nat.{◌-◌}
-use Rattle.base.proofs.Span.{Spanning, span-start, span-goes, span-stops, span-ends}
+use Rattle.base.proofs.Span.{Spanning}
 use Rattle.characters.specs.Class.{key_byte}
 use Rattle.characters.proofs.classes.key_end.Given as goal
 

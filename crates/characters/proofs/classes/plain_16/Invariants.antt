@@ -1,16 +1,11 @@
 -- `classes::plain_16` meets its contract: while n is 0 every byte passed is plain. Assumes nothing.
 -- `classes::plain_16` meets its contract: while n is 0 every byte passed is plain. Assumes nothing.
-use borrow.Author.Rules.{rules}
-use native.Mathlib.Omega.{arith}
-use mathlib.Core.Path.{◌≡◌, refl, sym, ◌∙◌}
-use borrow.Author.Tests.{le-leb, lt-leb}
+use mathlib.Core.Path.{◌≡◌}
 use lib.ListN.{take, drop}
 use Prim.Native.Nat.{◌≤◌, ◌-◌}
 use lib.Dec.{eqb}
-use Rattle.base.proofs.Span.{all-next}
 use Rattle.base.specs.Lists.{all}
 use Rattle.characters.specs.Class.{value_byte}
-use mathlib.Core.Bool.{and-false, and-true}
 use Rattle.characters.proofs.classes.plain_16.Given as goal
 
 abbrev pub invariant-loop-j : goal.invariant-loop-j

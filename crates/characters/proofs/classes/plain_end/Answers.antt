@@ -1,10 +1,8 @@
 -- `classes::plain_end` meets its contract: what is left to pass from `i` is the whole answer. Assumes nothing.
-use borrow.Author.Rules.{rules}
 use native.Mathlib.Omega.{arith}
-use mathlib.Core.Path.{◌≡◌, refl, sym, ◌∙◌}
+use mathlib.Core.Path.{refl, sym, ◌∙◌}
 use Rattle.base.proofs.Scan.{done}
-use lib.ListN.{length, drop, length-drop}
-use Prim.Native.Nat.{◌+◌, ◌-◌}
+use lib.ListN.{drop, length-drop}
 use lib.Seq.{drop-drop}
 use Rattle.base.proofs.Span.{span-skip}
 use Rattle.base.specs.Lists.{span}

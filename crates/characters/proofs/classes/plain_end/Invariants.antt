@@ -1,12 +1,7 @@
 -- `classes::plain_end` meets its contract: what is left to pass from `i` is the whole answer. Assumes nothing.
-use borrow.Author.Rules.{rules}
-use native.Mathlib.Omega.{arith}
-use mathlib.Core.Path.{◌≡◌, refl, sym, ◌∙◌}
-use Rattle.base.proofs.Scan.{done}
-use lib.ListN.{length, drop, length-drop}
+use mathlib.Core.Path.{◌≡◌}
+use lib.ListN.{length, drop}
 use Prim.Native.Nat.{◌+◌, ◌-◌}
-use lib.Seq.{drop-drop}
-use Rattle.base.proofs.Span.{span-skip}
 use Rattle.base.specs.Lists.{span}
 use Rattle.characters.specs.Class.{value_byte}
 use Rattle.characters.proofs.classes.plain_end.Given as goal

@@ -7,7 +7,6 @@ use lib.Seq.{take_all}
 use Rattle.base.specs.Lists.{all}
 use Rattle.base.proofs.Span.{span_last}
 use Rattle.characters.specs.Class.{value_byte}
-use borrow.Author.Rules.{rules}
 use Rattle.characters.proofs.classes.short_end.Goals as goal
 
 pub returns-then-plain_16 : goal.returns-then-plain_16

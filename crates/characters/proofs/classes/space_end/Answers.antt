@@ -1,10 +1,7 @@
 -- `classes::space_end` meets its contract: what is left to pass from `i` is the whole answer. Assumes nothing.
 use borrow.Author.Rules.{rules}
-use lib.ListN.{length}
 use borrow.Author.Tests.{eq-eqb, ne_eqb}
-use Prim.Native.Nat.{◌-◌}
-use Rattle.base.proofs.Span.{Spanning, span-start, span-goes, span-stops, span-ends}
-use Rattle.characters.specs.Class.{space_byte}
+use Rattle.base.proofs.Span.{span-start, span-goes, span-stops, span-ends}
 use Rattle.characters.proofs.classes.space_end.Goals as goal
 
 pub loop-i-init : goal.loop-i-init

@@ -1,9 +1,7 @@
 -- `classes::space_end` meets its contract: what is left to pass from `i` is the whole answer. Assumes nothing.
-use borrow.Author.Rules.{rules}
 use lib.ListN.{length}
-use borrow.Author.Tests.{eq-eqb, ne_eqb}
 use Prim.Native.Nat.{◌-◌}
-use Rattle.base.proofs.Span.{Spanning, span-start, span-goes, span-stops, span-ends}
+use Rattle.base.proofs.Span.{Spanning}
 use Rattle.characters.specs.Class.{space_byte}
 use Rattle.characters.proofs.classes.space_end.Given as goal
 

@@ -1,5 +1,4 @@
 -- `classes::span_end` meets its contract: each arm is its class. Assumes nothing.
-use borrow.Author.Rules.{rules}
 use Rattle.characters.proofs.classes.span_end.Goals as goal
 
 pub returns-in-Key : goal.returns-in-Key

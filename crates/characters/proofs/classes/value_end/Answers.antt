@@ -1,10 +1,7 @@
 -- `classes::value_end` meets its contract: what is left to pass from `i` is the whole answer. Assumes nothing.
 use borrow.Author.Rules.{rules}
 use mathlib.Core.Path.{sym, ◌∙◌}
-use lib.ListN.{length}
-use Prim.Native.Nat.{◌-◌}
-use Rattle.base.proofs.Span.{Spanning, span-start, span-goes, span-stops, span-ends}
-use Rattle.characters.specs.Class.{value_byte}
+use Rattle.base.proofs.Span.{span-start, span-goes, span-stops, span-ends}
 use Rattle.characters.proofs.classes.value_end.Goals as goal
 
 pub loop-i-init : goal.loop-i-init

@@ -5,7 +5,6 @@ use Rattle.characters.specs.Step.{character_at, due_of}
 use Rattle.characters.specs.Utf8.{lead}
 use Rattle.characters.specs.declared.Due.{Due}
 use Rattle.characters.proofs.Letters.{lead-middle}
-use borrow.Author.Rules.{rules}
 use Rattle.characters.proofs.utf8.character.Goals as goal
 
 pub returns-then-within : goal.returns-then-within

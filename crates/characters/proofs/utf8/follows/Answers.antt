@@ -1,5 +1,4 @@
 -- `utf8::follows` meets its contract. Assumes nothing.
-use borrow.Author.Rules.{rules}
 use Rattle.characters.proofs.utf8.follows.Goals as goal
 
 pub returns : goal.returns

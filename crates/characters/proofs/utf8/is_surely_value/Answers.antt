@@ -1,14 +1,8 @@
 -- `utf8::is_surely_value` meets its contract: plain bytes, and then bytes that may follow. Assumes nothing.
-use borrow.Author.Rules.{rules}
 use native.Mathlib.Omega.{arith}
-use mathlib.Core.Path.{◌≡◌, sym, ◌∙◌}
-use mathlib.Core.Option.{none}
-use Prim.Native.Nat.{◌-◌, ◌≤◌}
-use lib.ListN.{length, drop}
+use mathlib.Core.Path.{sym, ◌∙◌}
+use lib.ListN.{drop}
 use lib.Seq.{drop-drop}
-use Rattle.characters.specs.Class.{value_byte}
-use Rattle.characters.specs.Utf8.{text_fault}
-use Rattle.characters.specs.declared.Due.TheVariants.{Start}
 use Rattle.characters.proofs.Windows.{plain-front, plain-last}
 use Rattle.characters.proofs.utf8.is_surely_value.Goals as goal
 

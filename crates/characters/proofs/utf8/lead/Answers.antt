@@ -3,7 +3,6 @@ use borrow.Author.Tests.{eq-eqb, ne_eqb}
 use mathlib.Core.Path.{sym, ap, ◌∙◌}
 use Rattle.characters.specs.Utf8.{lead}
 use Rattle.characters.specs.Step.{due_of}
-use borrow.Author.Rules.{rules}
 use Rattle.characters.proofs.utf8.lead.Goals as goal
 
 pub returns-then-within : goal.returns-then-within

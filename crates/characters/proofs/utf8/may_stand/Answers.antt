@@ -1,5 +1,4 @@
 -- `utf8::may_stand` meets its contract: each arm is its content. Assumes nothing.
-use borrow.Author.Rules.{rules}
 use Rattle.characters.proofs.utf8.may_stand.Goals as goal
 
 pub returns-in-Value : goal.returns-in-Value

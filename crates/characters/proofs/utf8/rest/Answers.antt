@@ -1,9 +1,6 @@
 -- `utf8::rest` meets its contract: what is left of the character from `i` on is the whole answer. Assumes nothing.
 use borrow.Author.Rules.{rules}
-use mathlib.Core.Path.{◌≡◌, refl, sym, ◌∙◌}
-use lib.ListN.{length}
-use Prim.Native.Nat.{◌-◌}
-use Rattle.characters.specs.Step.{rest_at}
+use mathlib.Core.Path.{refl, sym, ◌∙◌}
 use Rattle.characters.proofs.Characters.{rest-none, rest-stops, rest-last, rest_more}
 use Rattle.characters.proofs.utf8.rest.Goals as goal
 

@@ -1,10 +1,8 @@
 -- `utf8::rest` meets its contract: what is left of the character from `i` on is the whole answer. Assumes nothing.
-use borrow.Author.Rules.{rules}
-use mathlib.Core.Path.{◌≡◌, refl, sym, ◌∙◌}
+use mathlib.Core.Path.{◌≡◌}
 use lib.ListN.{length}
 use Prim.Native.Nat.{◌-◌}
 use Rattle.characters.specs.Step.{rest_at}
-use Rattle.characters.proofs.Characters.{rest-none, rest-stops, rest-last, rest_more}
 use Rattle.characters.proofs.utf8.rest.Given as goal
 
 abbrev pub invariant-loop-i : goal.invariant-loop-i

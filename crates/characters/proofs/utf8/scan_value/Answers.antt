@@ -1,5 +1,4 @@
 -- `utf8::scan_value` meets its contract: nothing is left, it is surely a value, or it is scanned. Assumes nothing.
-use borrow.Author.Rules.{rules}
 use mathlib.Core.Path.{sym, ap, ◌∙◌}
 use Rattle.base.proofs.Scan.{done}
 use Rattle.base.proofs.Tail.{tail-lent}

@@ -1,12 +1,8 @@
 -- `utf8::sound_16` meets its contract: the bytes asked so far may follow. Assumes nothing.
-use borrow.Author.Rules.{rules}
-use native.Mathlib.Omega.{arith}
-use mathlib.Core.Path.{◌≡◌, sym, ◌∙◌}
+use mathlib.Core.Path.{◌≡◌}
 use mathlib.Core.Bool.{true}
 use Prim.Native.Nat.{◌+◌, ◌-◌, ◌≤◌}
-use Rattle.base.proofs.Tests.{and_both}
 use Rattle.characters.specs.Window.{FollowedTo}
-use Rattle.characters.proofs.Windows.{followed-none, followed-more}
 use Rattle.characters.proofs.utf8.sound_16.Given as goal
 
 abbrev pub invariant-loop-j : goal.invariant-loop-j

@@ -5,7 +5,6 @@ use mathlib.Core.Bool.{false≢true}
 use Prim.Native.Nat.{◌-◌}
 use lib.ListN.{length}
 use Rattle.characters.proofs.Windows.{sound-less, rest-sound}
-use borrow.Author.Rules.{rules}
 use Rattle.characters.proofs.utf8.sound_from.Goals as goal
 
 pub returns-then-s-lt19 : goal.returns-then-s-lt19

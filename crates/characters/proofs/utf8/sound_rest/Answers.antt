@@ -1,11 +1,9 @@
 -- `utf8::sound_rest` meets its contract: the bytes asked so far may follow. Assumes nothing.
-use borrow.Author.Rules.{rules}
 use native.Mathlib.Omega.{arith}
 use mathlib.Core.Path.{◌≡◌, refl, sym, ◌∙◌}
-use mathlib.Core.Bool.{true, false, false≢true}
-use Prim.Native.Nat.{◌+◌, ◌-◌, ◌≤◌}
+use mathlib.Core.Bool.{false≢true}
+use Prim.Native.Nat.{◌+◌, ◌-◌}
 use lib.ListN.{length}
-use Rattle.characters.specs.Window.{FollowedTo}
 use Rattle.characters.proofs.Windows.{followed-none, followed-join, not-true}
 use Rattle.characters.proofs.utf8.sound_rest.Goals as goal
 

@@ -2,7 +2,6 @@
 use mathlib.Core.Path.{sym, ◌∙◌}
 use borrow.Author.Tests.{eq-eqb, ne_eqb}
 use Rattle.command.specs.Codes.{code_piece}
-use borrow.Author.Rules.{rules}
 use Rattle.command.proofs.codes.code_piece.Goals as goal
 
 pub returns-then-c-eq37 : goal.returns-then-c-eq37

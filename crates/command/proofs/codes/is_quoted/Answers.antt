@@ -2,7 +2,6 @@
 use mathlib.Core.Path.{sym, ◌∙◌}
 use borrow.Author.Tests.{le-leb, lt-leb}
 use Rattle.command.specs.Codes.{quoted_byte}
-use borrow.Author.Rules.{rules}
 use Rattle.command.proofs.codes.is_quoted.Goals as goal
 
 pub returns-then-b-gt126 : goal.returns-then-b-gt126

@@ -1,5 +1,4 @@
 -- `codes::is_unquoted` meets its contract: the tests that led to each return say which case of the definition holds. Assumes nothing.
-use borrow.Author.Rules.{rules}
 use mathlib.Core.Path.{sym, ◌∙◌}
 use borrow.Author.Tests.{eq-eqb, ne_eqb, le-leb, lt-leb}
 use Rattle.command.specs.Codes.{unquoted_byte, reserved}

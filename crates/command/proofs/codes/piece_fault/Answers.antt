@@ -2,7 +2,6 @@
 use mathlib.Core.Path.{sym, ◌∙◌}
 use borrow.Author.Tests.{eq-eqb, ne_eqb}
 use Rattle.command.specs.Command.{piece_fault}
-use borrow.Author.Rules.{rules}
 use Rattle.command.proofs.codes.piece_fault.Goals as goal
 
 pub returns-then-code_in : goal.returns-then-code_in

@@ -2,7 +2,6 @@
 use mathlib.Core.Path.{sym, ◌∙◌}
 use borrow.Author.Tests.{eq-eqb, ne_eqb}
 use Rattle.command.specs.Command.{piece_of}
-use borrow.Author.Rules.{rules}
 use Rattle.command.proofs.codes.piece_of.Goals as goal
 
 pub returns-then-b-eq37 : goal.returns-then-b-eq37

@@ -1,5 +1,4 @@
 -- `codes::stands` meets its contract: the tests that led to each return say which case of the definition holds. Assumes nothing.
-use borrow.Author.Rules.{rules}
 use Rattle.command.proofs.codes.stands.Goals as goal
 
 pub returns-then-quoted : goal.returns-then-quoted

@@ -1,7 +1,6 @@
 -- `codes::stands_in` meets its contract: the tests that led to each return say which case of the definition holds. Assumes nothing.
 use borrow.Author.Tests.{eq-eqb, ne_eqb}
 use Rattle.command.specs.Codes.{stands_in}
-use borrow.Author.Rules.{rules}
 use Rattle.command.proofs.codes.stands_in.Goals as goal
 
 pub returns-then-b-eq61 : goal.returns-then-b-eq61

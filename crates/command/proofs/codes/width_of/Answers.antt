@@ -1,7 +1,6 @@
 -- `codes::width_of` meets its contract: the tests that led to each return say which case of the definition holds. Assumes nothing.
 use mathlib.Core.Path.{sym, ◌∙◌}
 use Rattle.command.specs.Command.{width_of}
-use borrow.Author.Rules.{rules}
 use Rattle.command.proofs.codes.width_of.Goals as goal
 
 pub returns-then-takes_next : goal.returns-then-takes_next

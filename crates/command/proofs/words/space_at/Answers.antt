@@ -3,10 +3,7 @@ use borrow.Author.Rules.{rules}
 use borrow.Author.Tests.{eq-eqb, ne_eqb}
 use mathlib.Core.Path.{ap}
 use mathlib.Core.Bool.{not}
-use lib.ListN.{length}
-use Prim.Native.Nat.{◌-◌}
-use Rattle.base.proofs.Span.{Spanning, span-start, span-goes, span-stops, span-ends}
-use Rattle.command.specs.Words.{not_space}
+use Rattle.base.proofs.Span.{span-start, span-goes, span-stops, span-ends}
 use Rattle.command.proofs.words.space_at.Goals as goal
 
 pub loop-i-init : goal.loop-i-init

@@ -1,11 +1,7 @@
 -- `words::space_at` meets its contract: what is left to pass from `i` on is the whole answer. Assumes nothing.
-use borrow.Author.Rules.{rules}
-use borrow.Author.Tests.{eq-eqb, ne_eqb}
-use mathlib.Core.Path.{ap}
-use mathlib.Core.Bool.{not}
 use lib.ListN.{length}
 use Prim.Native.Nat.{◌-◌}
-use Rattle.base.proofs.Span.{Spanning, span-start, span-goes, span-stops, span-ends}
+use Rattle.base.proofs.Span.{Spanning}
 use Rattle.command.specs.Words.{not_space}
 use Rattle.command.proofs.words.space_at.Given as goal
 

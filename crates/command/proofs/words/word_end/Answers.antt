@@ -1,6 +1,5 @@
 -- `words::word_end` meets its contract: a word that opens with a quote goes on behind it to the next space. Assumes nothing.
 use Rattle.command.proofs.Parting.{word-quoted, word-bare}
-use borrow.Author.Rules.{rules}
 use Rattle.command.proofs.words.word_end.Goals as goal
 
 pub returns-then-s-from-eq34 : goal.returns-then-s-from-eq34

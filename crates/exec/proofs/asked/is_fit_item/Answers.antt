@@ -1,5 +1,4 @@
 -- `asked::is_fit_item` meets its contract: the tests that led to each return say which case of the definition holds. Assumes nothing.
-use borrow.Author.Rules.{rules}
 use borrow.Author.Tests.{eq-eqb, ne_eqb}
 use Rattle.exec.specs.Expand.{fit_item}
 use Rattle.exec.proofs.asked.is_fit_item.Goals as goal

@@ -1,5 +1,4 @@
 -- `asked::is_fit_location` meets its contract: the tests that led to each return say which case of the definition holds. Assumes nothing.
-use borrow.Author.Rules.{rules}
 use borrow.Author.Tests.{le-leb, lt-leb}
 use Rattle.exec.specs.Expand.{fit_location}
 use Rattle.exec.proofs.asked.is_fit_location.Goals as goal

@@ -1,9 +1,7 @@
 -- `asked::no_zero` meets its contract: what is left of the bytes answers as all. Assumes nothing.
 use borrow.Author.Rules.{rules}
 use borrow.Author.Tests.{eq-eqb, ne_eqb}
-use mathlib.Core.Path.{◌≡◌, refl}
-use Prim.Native.Nat.{◌-◌}
-use lib.ListN.{length, drop}
+use mathlib.Core.Path.{refl}
 use Rattle.base.specs.Lists.{all}
 use Rattle.base.proofs.Scan.{here, done}
 use Rattle.exec.specs.Expand.{no_zero}

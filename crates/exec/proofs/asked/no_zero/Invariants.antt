@@ -1,11 +1,7 @@
 -- `asked::no_zero` meets its contract: what is left of the bytes answers as all. Assumes nothing.
-use borrow.Author.Rules.{rules}
-use borrow.Author.Tests.{eq-eqb, ne_eqb}
-use mathlib.Core.Path.{◌≡◌, refl}
+use mathlib.Core.Path.{◌≡◌}
 use Prim.Native.Nat.{◌-◌}
 use lib.ListN.{length, drop}
-use Rattle.base.specs.Lists.{all}
-use Rattle.base.proofs.Scan.{here, done}
 use Rattle.exec.specs.Expand.{no_zero}
 use Rattle.exec.proofs.asked.no_zero.Given as goal
 

@@ -2,7 +2,6 @@
 use native.Mathlib.Omega.{arith}
 use Rattle.text.specs.Escape.{read_text}
 use Rattle.exec.proofs.Values.{read-le, read-room}
-use borrow.Author.Rules.{rules}
 use Rattle.exec.proofs.texts.read_whole.Goals as goal
 
 pub returns : goal.returns

@@ -1,5 +1,4 @@
 -- `texts::refusal_of` meets its contract: each arm is the answer's case. Assumes nothing.
-use borrow.Author.Rules.{rules}
 use Rattle.exec.proofs.texts.refusal_of.Goals as goal
 
 pub returns-in-At : goal.returns-in-At

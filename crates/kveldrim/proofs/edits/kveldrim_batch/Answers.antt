@@ -1,6 +1,5 @@
 -- `kveldrim_batch` meets its contract: it is the call. Assumes nothing.
 use Rattle.abi.proofs.Telling.{called-batch}
-use borrow.Author.Rules.{rules}
 use Rattle.kveldrim.proofs.edits.kveldrim_batch.Goals as goal
 
 pub returns : goal.returns

@@ -1,5 +1,4 @@
 -- `kveldrim_forget` meets its contract: it is the call. Assumes nothing.
-use borrow.Author.Rules.{rules}
 use Rattle.abi.proofs.Telling.{forgot-done, forgot-refused}
 use Rattle.kveldrim.proofs.edits.kveldrim_forget.Goals as goal
 

@@ -1,7 +1,6 @@
 -- `kveldrim_person` meets its contract: it is the call. Assumes nothing.
 use Rattle.abi.proofs.Telling.{same-no-byte}
 use Rattle.abi.proofs.NoByte.{person-zero}
-use borrow.Author.Rules.{rules}
 use Rattle.kveldrim.proofs.edits.kveldrim_person.Goals as goal
 
 pub returns : goal.returns

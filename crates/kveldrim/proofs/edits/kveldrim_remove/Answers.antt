@@ -1,6 +1,5 @@
 -- `kveldrim_remove` meets its contract: it is the call. Assumes nothing.
 use Rattle.abi.proofs.Telling.{called}
-use borrow.Author.Rules.{rules}
 use Rattle.kveldrim.proofs.edits.kveldrim_remove.Goals as goal
 
 pub returns : goal.returns

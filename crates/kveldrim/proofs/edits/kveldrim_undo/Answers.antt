@@ -1,6 +1,5 @@
 -- `kveldrim_undo` meets its contract: it is the call. Assumes nothing.
 use Rattle.abi.proofs.Telling.{called}
-use borrow.Author.Rules.{rules}
 use Rattle.kveldrim.proofs.edits.kveldrim_undo.Goals as goal
 
 pub returns : goal.returns

@@ -3,7 +3,6 @@ use mathlib.Core.Path.{◌∙◌}
 use Rattle.base.proofs.Span.{span-all}
 use native.Mathlib.Nat.{zero-add}
 use Rattle.characters.specs.Class.{member}
-use borrow.Author.Rules.{rules}
 use Rattle.line.proofs.form.all_in.Goals as goal
 
 pub returns : goal.returns

@@ -1,7 +1,6 @@
 -- `form::is_group` meets its contract: the tests that led to each return say which case of the definition holds. Assumes nothing.
 use borrow.Author.Tests.{eq-eqb, ne_eqb}
 use Rattle.line.specs.Form.{group_form}
-use borrow.Author.Rules.{rules}
 use Rattle.line.proofs.form.is_group.Goals as goal
 
 pub returns-then-g-eq0 : goal.returns-then-g-eq0

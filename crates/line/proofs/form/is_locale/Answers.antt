@@ -2,7 +2,6 @@
 use borrow.Author.Tests.{eq-eqb, ne_eqb}
 use Rattle.line.specs.Form.{locale_form}
 use Rattle.line.proofs.Locales.{locale-by}
-use borrow.Author.Rules.{rules}
 use Rattle.line.proofs.form.is_locale.Goals as goal
 
 pub returns-then-s-eq0 : goal.returns-then-s-eq0

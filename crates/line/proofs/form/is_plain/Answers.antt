@@ -1,7 +1,6 @@
 -- `form::is_plain` meets its contract: the tests that led to each return say which case of the definition holds. Assumes nothing.
 use borrow.Author.Tests.{eq-eqb, ne_eqb}
 use Rattle.line.specs.Form.{plain_form}
-use borrow.Author.Rules.{rules}
 use Rattle.line.proofs.form.is_plain.Goals as goal
 
 pub returns-then-k-eq0 : goal.returns-then-k-eq0

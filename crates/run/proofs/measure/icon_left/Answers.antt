@@ -2,7 +2,6 @@
 use Rattle.text.proofs.RoomLaws.{spend-add, spend-zero}
 use Rattle.run.proofs.Listing.{list-none}
 use Rattle.run.proofs.Arguments.{icon-none, icon-some}
-use borrow.Author.Rules.{rules}
 use Rattle.run.proofs.measure.icon_left.Goals as goal
 
 pub returns-then-icon-eq0 : goal.returns-then-icon-eq0

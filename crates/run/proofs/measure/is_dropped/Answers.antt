@@ -1,14 +1,10 @@
 -- `measure::is_dropped` meets its contract: what is left of the pieces answers as all. Assumes nothing.
 use borrow.Author.Rules.{rules}
 use native.Mathlib.Omega.{arith}
-use mathlib.Core.Path.{◌≡◌, refl, sym, ◌∙◌}
+use mathlib.Core.Path.{refl, sym, ◌∙◌}
 use mathlib.Core.Bool.{false}
-use Prim.Native.Nat.{◌-◌}
-use lib.ListN.{length}
 use Rattle.base.specs.Lists.{all}
-use Rattle.command.specs.Command.{pieces_of}
-use Rattle.command.proofs.Pieces.{pieces_at, pieces-done, pieces-next, pieces-further}
-use Rattle.run.specs.Run.{leaves_nothing}
+use Rattle.command.proofs.Pieces.{pieces-done, pieces-next, pieces-further}
 use Rattle.run.proofs.measure.is_dropped.Goals as goal
 
 pub loop-i-init : goal.loop-i-init

@@ -1,6 +1,5 @@
 -- `measure::is_nothing` meets its contract: each arm is the case of its name. Assumes nothing.
 use Rattle.run.specs.Run.{leaves_nothing}
-use borrow.Author.Rules.{rules}
 use Rattle.run.proofs.measure.is_nothing.Goals as goal
 
 pub returns-in-Vanished : goal.returns-in-Vanished

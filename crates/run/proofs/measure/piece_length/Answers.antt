@@ -1,6 +1,5 @@
 -- `measure::piece_length` meets its contract: each arm is the case of its name. Assumes nothing.
 use Rattle.run.specs.Run.{piece_bytes}
-use borrow.Author.Rules.{rules}
 use Rattle.run.proofs.measure.piece_length.Goals as goal
 
 pub returns-in-Byte : goal.returns-in-Byte

@@ -1,11 +1,7 @@
 -- `measure::pieces_left` meets its contract: the room left and what the pieces from `i` on take are the whole answer. Assumes nothing.
-use borrow.Author.Rules.{rules}
 use native.Mathlib.Omega.{arith}
-use Prim.Native.Nat.{◌-◌}
-use lib.ListN.{length}
 use Rattle.command.proofs.Pieces.{pieces-further}
-use Rattle.run.specs.Step.{put_of}
-use Rattle.run.proofs.Spending.{Spending, spending-start, spending-next, spending-end}
+use Rattle.run.proofs.Spending.{spending-start, spending-next, spending-end}
 use Rattle.run.proofs.measure.pieces_left.Goals as goal
 
 pub loop-i-init : goal.loop-i-init

@@ -1,13 +1,9 @@
 -- `measure::run_left` meets its contract: the room left and what the words from `i` on take are the whole answer. Assumes nothing.
 use borrow.Author.Rules.{rules}
 use native.Mathlib.Omega.{arith}
-use Prim.Native.Nat.{◌-◌}
-use lib.ListN.{length}
 use Rattle.base.proofs.Lists.{length_part}
 use Rattle.command.proofs.Parting.{word-ends}
-use Rattle.run.specs.Run.{run_of}
-use Rattle.run.specs.Step.{put_of, items_in}
-use Rattle.run.proofs.Arguments.{Measuring, measuring-start, measuring-space, measuring-next, measuring-end}
+use Rattle.run.proofs.Arguments.{measuring-start, measuring-space, measuring-next, measuring-end}
 use Rattle.run.proofs.measure.run_left.Goals as goal
 
 pub loop-i-init : goal.loop-i-init

@@ -1,7 +1,6 @@
 -- `measure::text_left` meets its contract: a head and the pieces make the record. Assumes nothing.
 use Rattle.text.proofs.RoomLaws.{spend-add}
 use Rattle.run.proofs.Listing.{length-one}
-use borrow.Author.Rules.{rules}
 use Rattle.run.proofs.measure.text_left.Goals as goal
 
 pub returns : goal.returns

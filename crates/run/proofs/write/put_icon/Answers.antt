@@ -1,5 +1,4 @@
 -- `write::put_icon` meets its contract: two records, the second behind the first, or none. Assumes nothing.
-use borrow.Author.Rules.{rules}
 use mathlib.Core.Path.{ap}
 use lib.ListN.{length}
 use native.Mathlib.Omega.{arith}

@@ -1,14 +1,10 @@
 -- `write::put_items` meets its contract: what is written and the items from the place on make the whole. Assumes nothing.
-use borrow.Author.Rules.{rules}
-use native.Mathlib.Omega.{arith}
-use mathlib.Core.Path.{sym, ◌∙◌}
 use Prim.Native.Nat.{◌-◌}
 use lib.ListN.{length}
 use Rattle.record.specs.Record.{list_of}
-use Rattle.record.proofs.Place.{front-damaged, front-record}
 use Rattle.run.specs.Step.{items_in}
 use Rattle.run.proofs.Filling.{Filling}
-use Rattle.run.proofs.Writing.{Items, items_at, items-begin, items-damaged, items-next, items-room, items-filled, items-end}
+use Rattle.run.proofs.Writing.{Items, items_at}
 use Rattle.run.proofs.write.put_items.Given as goal
 
 abbrev pub invariant-loop-from : goal.invariant-loop-from

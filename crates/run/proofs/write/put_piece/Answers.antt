@@ -1,7 +1,6 @@
 -- `write::put_piece` meets its contract: each arm copies the case of its name. Assumes nothing.
 use Rattle.run.specs.Run.{piece_bytes}
 use Rattle.run.proofs.Writing.{wrote_none, wrote-copy}
-use borrow.Author.Rules.{rules}
 use Rattle.run.proofs.write.put_piece.Goals as goal
 
 pub copy-requires : goal.copy-requires

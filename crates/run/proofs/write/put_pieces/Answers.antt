@@ -1,11 +1,7 @@
 -- `write::put_pieces` meets its contract: what is written and the pieces from `i` on make the whole. Assumes nothing.
-use borrow.Author.Rules.{rules}
 use native.Mathlib.Omega.{arith}
-use Prim.Native.Nat.{◌-◌}
-use lib.ListN.{length}
 use Rattle.command.proofs.Pieces.{pieces-further}
-use Rattle.run.specs.Step.{put_of}
-use Rattle.run.proofs.Filling.{PiecesPut, pieces-start, piece-room, piece-put, pieces_end}
+use Rattle.run.proofs.Filling.{pieces-start, piece-room, piece-put, pieces_end}
 use Rattle.run.proofs.write.put_pieces.Goals as goal
 
 pub loop-i-init : goal.loop-i-init

@@ -1,11 +1,9 @@
 -- `write::put_run` meets its contract: what is written and the records of the words from `i` on make the whole. Assumes nothing.
-use borrow.Author.Rules.{rules}
-use native.Mathlib.Omega.{arith}
 use Prim.Native.Nat.{◌-◌}
 use lib.ListN.{length}
 use Rattle.run.specs.Run.{run_of}
 use Rattle.run.specs.Step.{put_of, items_in}
-use Rattle.run.proofs.Writing.{WordsPut, words-start, words-over, words_inside, words-room, words-next, words-end}
+use Rattle.run.proofs.Writing.{WordsPut}
 use Rattle.run.proofs.write.put_run.Given as goal
 
 abbrev pub invariant-loop-i : goal.invariant-loop-i

@@ -1,6 +1,5 @@
 -- `write::put_text` meets its contract: the head and the pieces behind it make the record. Assumes nothing.
 use Rattle.run.proofs.Writing.{wrote-text}
-use borrow.Author.Rules.{rules}
 use Rattle.run.proofs.write.put_text.Goals as goal
 
 pub returns : goal.returns

@@ -2,9 +2,8 @@
 use native.Mathlib.Omega.{arith}
 use borrow.Author.Tests.{eq-eqb, ne_eqb}
 use Rattle.base.proofs.Scan.{here, done}
-use Prim.Native.Nat.{◌+◌, ◌-◌}
+use Prim.Native.Nat.{◌+◌}
 use Rattle.text.specs.Step.{decoded_after, decoded_of}
-use borrow.Author.Rules.{rules}
 use Rattle.text.proofs.escape.decode.Goals as goal
 
 pub returns-then-b-ne92 : goal.returns-then-b-ne92

@@ -1,6 +1,5 @@
 -- `escape::first_letter` meets its contract: the tests that led to each return say which case of the definition holds. Assumes nothing.
 use borrow.Author.Tests.{eq-eqb, ne_eqb}
-use borrow.Author.Rules.{rules}
 use Rattle.text.proofs.escape.first_letter.Goals as goal
 
 pub returns-then-b-eq32 : goal.returns-then-b-eq32

@@ -1,6 +1,5 @@
 -- `escape::letter_at` meets its contract: the tests that led to each return say which case of the definition holds. Assumes nothing.
 use borrow.Author.Tests.{eq-eqb, ne_eqb}
-use borrow.Author.Rules.{rules}
 use Rattle.text.proofs.escape.letter_at.Goals as goal
 
 pub returns-then-i-eq0 : goal.returns-then-i-eq0

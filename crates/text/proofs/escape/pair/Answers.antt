@@ -1,7 +1,6 @@
 -- `escape::pair` meets its contract: the tests that led to each return say which case of the definition holds. Assumes nothing.
 use borrow.Author.Tests.{eq-eqb, ne_eqb}
 use Rattle.text.specs.Escape.{escape}
-use borrow.Author.Rules.{rules}
 use Rattle.text.proofs.escape.pair.Goals as goal
 
 pub returns-then-c-eq59 : goal.returns-then-c-eq59

@@ -1,9 +1,7 @@
 -- `escape::raw_length` meets its contract: what is counted and the raw value from `i` on make the whole length. Assumes nothing.
 use borrow.Author.Rules.{rules}
 use native.Mathlib.Omega.{arith}
-use lib.ListN.{length}
-use Prim.Native.Nat.{◌-◌}
-use Rattle.text.proofs.Writing.{RawMeasured, count-plain, count-pair, count-end}
+use Rattle.text.proofs.Writing.{count-plain, count-pair, count-end}
 use Rattle.text.proofs.escape.raw_length.Goals as goal
 
 pub loop-i-init : goal.loop-i-init

@@ -1,9 +1,7 @@
 -- `escape::raw_length` meets its contract: what is counted and the raw value from `i` on make the whole length. Assumes nothing.
-use borrow.Author.Rules.{rules}
-use native.Mathlib.Omega.{arith}
 use lib.ListN.{length}
 use Prim.Native.Nat.{◌-◌}
-use Rattle.text.proofs.Writing.{RawMeasured, count-plain, count-pair, count-end}
+use Rattle.text.proofs.Writing.{RawMeasured}
 use Rattle.text.proofs.escape.raw_length.Given as goal
 
 abbrev pub invariant-loop-i : goal.invariant-loop-i

@@ -2,10 +2,8 @@
 use borrow.Author.Rules.{rules}
 use native.Mathlib.Omega.{arith}
 use mathlib.Core.Path.{sym, ◌∙◌}
-use lib.ListN.{length}
-use Prim.Native.Nat.{◌-◌}
 use Rattle.text.specs.Escape.{text_from}
-use Rattle.text.proofs.Reading.{Measured, counted_start, measured-byte, measured-wrong, measured-end, byte-within}
+use Rattle.text.proofs.Reading.{counted_start, measured-byte, measured-wrong, measured-end, byte-within}
 use mathlib.Core.Bool.{false}
 use Rattle.text.proofs.escape.text_length.Goals as goal
 

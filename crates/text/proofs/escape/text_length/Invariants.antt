@@ -1,12 +1,7 @@
 -- `escape::text_length` meets its contract: what is counted and the text from `i` on make the whole length. Assumes nothing.
-use borrow.Author.Rules.{rules}
-use native.Mathlib.Omega.{arith}
-use mathlib.Core.Path.{sym, ◌∙◌}
 use lib.ListN.{length}
 use Prim.Native.Nat.{◌-◌}
-use Rattle.text.specs.Escape.{text_from}
-use Rattle.text.proofs.Reading.{Measured, counted_start, measured-byte, measured-wrong, measured-end, byte-within}
-use mathlib.Core.Bool.{false}
+use Rattle.text.proofs.Reading.{Measured}
 use Rattle.text.proofs.escape.text_length.Given as goal
 
 abbrev pub invariant-loop-i : goal.invariant-loop-i

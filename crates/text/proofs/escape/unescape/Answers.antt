@@ -2,11 +2,9 @@
 use borrow.Author.Rules.{rules}
 use native.Mathlib.Omega.{arith}
 use mathlib.Core.Path.{sym, ◌∙◌}
-use lib.ListN.{length}
-use Prim.Native.Nat.{◌-◌}
 use Rattle.text.specs.Escape.{text_from}
 use Rattle.text.specs.Step.{text_of}
-use Rattle.text.proofs.Reading.{byte-within, Reading, reading-wrong, reading-room, reading-byte, reading-end}
+use Rattle.text.proofs.Reading.{byte-within, reading-wrong, reading-room, reading-byte, reading-end}
 use Rattle.base.proofs.Fill.{fill_start}
 use mathlib.Core.Bool.{false}
 use Rattle.text.proofs.escape.unescape.Goals as goal

@@ -1,14 +1,7 @@
 -- `escape::unescape` meets its contract: what is written and the text from `i` on make the whole text. Assumes nothing.
-use borrow.Author.Rules.{rules}
-use native.Mathlib.Omega.{arith}
-use mathlib.Core.Path.{sym, ◌∙◌}
 use lib.ListN.{length}
 use Prim.Native.Nat.{◌-◌}
-use Rattle.text.specs.Escape.{text_from}
-use Rattle.text.specs.Step.{text_of}
-use Rattle.text.proofs.Reading.{byte-within, Reading, reading-wrong, reading-room, reading-byte, reading-end}
-use Rattle.base.proofs.Fill.{fill_start}
-use mathlib.Core.Bool.{false}
+use Rattle.text.proofs.Reading.{Reading}
 use Rattle.text.proofs.escape.unescape.Given as goal
 
 abbrev pub invariant-loop-i : goal.invariant-loop-i

@@ -2,9 +2,7 @@
 use borrow.Author.Rules.{rules}
 use native.Mathlib.Omega.{arith}
 use mathlib.Core.Path.{refl}
-use lib.ListN.{length}
-use Prim.Native.Nat.{◌-◌}
-use Rattle.text.proofs.Writing.{Spelling, spell-plain, spell-pair, plain-room, pair-room, spell-end}
+use Rattle.text.proofs.Writing.{spell-plain, spell-pair, plain-room, pair-room, spell-end}
 use Rattle.base.proofs.Fill.{fill_start}
 use Rattle.text.specs.Escape.{raw_text}
 use lib.ListN.{length-set}

@@ -1,13 +1,7 @@
 -- `escape::write_raw` meets its contract: what is written and the raw value from `i` on make the whole. Assumes nothing.
-use borrow.Author.Rules.{rules}
-use native.Mathlib.Omega.{arith}
-use mathlib.Core.Path.{refl}
 use lib.ListN.{length}
 use Prim.Native.Nat.{◌-◌}
-use Rattle.text.proofs.Writing.{Spelling, spell-plain, spell-pair, plain-room, pair-room, spell-end}
-use Rattle.base.proofs.Fill.{fill_start}
-use Rattle.text.specs.Escape.{raw_text}
-use lib.ListN.{length-set}
+use Rattle.text.proofs.Writing.{Spelling}
 use Rattle.text.proofs.escape.write_raw.Given as goal
 
 abbrev pub invariant-loop-i : goal.invariant-loop-i

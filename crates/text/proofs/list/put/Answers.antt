@@ -5,7 +5,6 @@ use Rattle.record.proofs.Written.{body-then-head}
 use Rattle.text.specs.Escape.{text_from}
 use Rattle.text.specs.Step.{text_of}
 use mathlib.Core.Bool.{false}
-use borrow.Author.Rules.{rules}
 use Rattle.text.proofs.list.put.Goals as goal
 
 pub returns : goal.returns

@@ -2,10 +2,8 @@
 use borrow.Author.Rules.{rules}
 use native.Mathlib.Omega.{arith}
 use mathlib.Core.Path.{sym, ap, ◌∙◌}
-use lib.ListN.{length}
-use Prim.Native.Nat.{◌-◌}
 use Rattle.text.specs.Step.{measured}
-use Rattle.text.proofs.Elements.{RoomLeft, room-start, room-end, room-wrong, room-place, room_next, element-end}
+use Rattle.text.proofs.Elements.{room-start, room-end, room-wrong, room-place, room_next, element-end}
 use Rattle.text.proofs.list.room_after.Goals as goal
 
 pub slice_bounds-text_length-count : goal.slice_bounds-text_length-count

@@ -1,11 +1,7 @@
 -- `list::room_after` meets its contract: the room left and what the elements from `i` on take are the whole answer. Assumes nothing.
-use borrow.Author.Rules.{rules}
-use native.Mathlib.Omega.{arith}
-use mathlib.Core.Path.{sym, ap, ◌∙◌}
 use lib.ListN.{length}
 use Prim.Native.Nat.{◌-◌}
-use Rattle.text.specs.Step.{measured}
-use Rattle.text.proofs.Elements.{RoomLeft, room-start, room-end, room-wrong, room-place, room_next, element-end}
+use Rattle.text.proofs.Elements.{RoomLeft}
 use Rattle.text.proofs.list.room_after.Given as goal
 
 abbrev pub invariant-loop-i : goal.invariant-loop-i

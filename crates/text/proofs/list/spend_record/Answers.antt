@@ -3,7 +3,6 @@ use Prim.Native.Nat.{◌+◌}
 use native.Mathlib.Omega.{arith}
 use borrow.Author.Tests.{lt-ltb, le-ltb}
 use Rattle.text.specs.Step.{spend_record}
-use borrow.Author.Rules.{rules}
 use Rattle.text.proofs.list.spend_record.Goals as goal
 
 pub returns-then-n-gt4294967289 : goal.returns-then-n-gt4294967289

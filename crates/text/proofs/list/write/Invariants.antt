@@ -1,9 +1,7 @@
 -- `list::write` meets its contract: what is written and the records of the elements from `i` on are the whole. Assumes nothing.
-use borrow.Author.Rules.{rules}
-use native.Mathlib.Omega.{arith}
 use lib.ListN.{length}
 use Prim.Native.Nat.{◌-◌}
-use Rattle.text.proofs.Elements.{element-end, Listing, listing_start, listing-end, listing-room, listing-next, own-sound}
+use Rattle.text.proofs.Elements.{Listing}
 use Rattle.text.proofs.list.write.Given as goal
 
 abbrev pub invariant-loop-i : goal.invariant-loop-i
