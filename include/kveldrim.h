@@ -2,9 +2,9 @@
  * kveldrim.h - the C interface of Kveldrim, a proved core for .desktop files (Desktop Entry Specification 1.5).
  * SPDX-License-Identifier: Apache-2.0
  *
- * Link with libkveldrim.a, which `rt staticlib kveldrim` writes to target/staticlib:
+ * Link with libkveldrim.a, which `rt lib` in crates/kveldrim writes to crates/kveldrim/out:
  *
- *     cc -Iinclude program.c target/staticlib/libkveldrim.a
+ *     cc -Iinclude program.c crates/kveldrim/out/libkveldrim.a
  *
  * How every call works
  *
