@@ -1,8 +1,8 @@
 #!/usr/bin/env python3
 """Brings the repository's own definitions and lemmas to today's spelling: words in snake case, types and modules in camel case.
 
-Run once at the top, after port.py of the kit. It renames what specs/ and proofs/ declare in mixed case (lookUp becomes look_up), wherever the name
-stands in .antt files and in .rt files outside strings. Functions of src/, exported names and strings keep their names. Names that would
+Run at the top, after port.py of the kit. It renames what specs/ and proofs/ declare in mixed case (lookUp becomes look_up) and what specs/ declares
+with a dash (new-bytes becomes new_bytes), wherever the name stands in .antt files and in .rt files outside strings. A second run changes nothing. Functions of src/, exported names and strings keep their names. Names that would
 fall together with another one are told apart first (APART). A function's proof in Proof.antt gets the name by which the check finds it.
 """
 import collections
@@ -22,6 +22,7 @@ APART = [
     ("crates/demands/proofs/BatchLaws", "one_more", "one_more_lem"),
     ("crates/demands/proofs/EditLaws", "left_by", "left_by_lem"),
     ("crates/demands/proofs/ContractLaws", "told_in", "told_in_lem"),
+    ("crates/edit/", "none-bad", "no_bad_line"),
 ]
 # Modules whose names Rattle now makes itself.
 FILES = [("crates/demands/specs/Contracts.antt", "crates/demands/specs/ByContracts.antt")]
@@ -65,16 +66,23 @@ def main():
             texts[f] = re.sub(re.escape(old) + r"\b", new, texts[f])
         if f == lib:
             texts[f] = texts[f].replace("pub mod Contracts\n", "pub mod ByContracts\n")
-        for start, old, new in APART:
-            if f.startswith(start) and f in antt:
+    for start, old, new in APART:
+        there = [f for f in antt if f.startswith(start)]
+        if not any(new in WORD.findall(texts[f]) for f in there):
+            for f in there:
                 texts[f] = words(texts[f], {old: new})
-    declared = set()
+    declared, dashed = set(), set()
     for f in antt:
+        if f.endswith(("/Answers.antt", "/Invariants.antt")):
+            continue  # they declare goals, whose names Rattle makes
         for line in texts[f].splitlines():
             m = DECLARED.match(line)
             if m:
                 declared.add(m.group(1))
+                if "/specs/" in f and "-" in m.group(1):
+                    dashed.add(m.group(1))
     names = {n: snake(n) for n in declared if re.match(r"[a-z]", n) and re.search(r"[A-Z]", n)}
+    names.update({n: snake(n).replace("-", "_") for n in dashed})
     fallen = [n for n, c in collections.Counter(names.values()).items() if c > 1]
     for f in antt:
         if not f.endswith("/Proof.antt"):

@@ -29,7 +29,7 @@ pub same-no-byte : {a b : Answer ℕ} {code place byte number₀ number : ℕ} �
 same-no-byte e z t =
     let r = same_number e t in
     let q = r.returned in
-    record { returned = record { code_is = q.code_is; place_is = q.place_is; byte-is = sym z }; number_is = r.number_is }
+    record { returned = record { code_is = q.code_is; place_is = q.place_is; byte_is = sym z }; number_is = r.number_is }
 
 pub same_ends : {a b : Answer Extent} {code place byte from₀ from to₀ to : ℕ} → a ≡ b → ReturnedEnds a code place byte from₀ from to₀ to → ReturnedEnds b code place byte from₀ from to₀ to
 same_ends e t = rw e at t
@@ -66,29 +66,29 @@ pub called : {s : State} {a : Answer State} {e : Edited} {code place byte size u
 called {s} {a} {e} {code} {place} {byte} {size} {used} {standing} m t =
     let n : ReturnedNumbers (then numbers_of a) code place byte s.size size s.used used s.standing standing = rw m.answer at t in
     record {
-      returned = record { code_is = n.returned.code_is ∙ code-told a; place_is = n.returned.place_is ∙ place-told a; byte-is = n.returned.byte-is ∙ byte-told a };
+      returned = record { code_is = n.returned.code_is ∙ code-told a; place_is = n.returned.place_is ∙ place-told a; byte_is = n.returned.byte_is ∙ byte-told a };
       size_is = n.size_is ∙ size-told s a;
-      used-is = n.used-is ∙ used-told s a;
-      standing-is = n.standing-is ∙ standing-told s a;
-      file-is = m.file-is;
-      journal-is = m.journal-is;
+      used_is = n.used_is ∙ used-told s a;
+      standing_is = n.standing_is ∙ standing-told s a;
+      file_is = m.file_is;
+      journal_is = m.journal_is;
     }
 
 -- ---- many requests
 
-pub called-batch : {b : Batch} {r : Batched} {code place byte done size used standing : ℕ} {file journal : List ℕ} → batch.Made b r file journal
+pub called_batch : {b : Batch} {r : Batched} {code place byte done size used standing : ℕ} {file journal : List ℕ} → batch.Made b r file journal
     → ((file journal : List ℕ) → CalledBatch (batch.batch_of r file journal) code place byte done size used standing file journal)
     → CalledBatch b code place byte done size used standing file journal
-called-batch {file = file} {journal = journal} m t = rw m.is at (t file journal)
+called_batch {file = file} {journal = journal} m t = rw m.is at (t file journal)
 
 -- ---- forgetting
 
 module _ {s : Lent} {k : ℕ} {journal : List ℕ} where
   pub forgot-done : {used standing : ℕ} → Forgets s k (forgot.Done used standing) journal → CalledOnJournal s (forget s k) 0 0 (lent journal used standing)
-  forgot-done m = rw (← m.answer) (record { returned = record { code_is = refl; place_is = refl; byte-is = refl }; left = refl })
+  forgot-done m = rw (← m.answer) (record { returned = record { code_is = refl; place_is = refl; byte_is = refl }; left = refl })
 
   pub forgot-refused : {f : Fault} {code place : ℕ} → Forgets s k (forgot.Refused f) journal → code ≡ number_of f → place ≡ place_of f
       → CalledOnJournal s (forget s k) code place (lent journal s.used s.standing)
   forgot-refused m c p =
       let e = m.answer in
-      record { returned = record { code_is = c ∙ ap code_of e; place_is = p ∙ ap place_in e; byte-is = sym (forget-zero s k) }; left = rw (← e, m.journal-is, ← e) }
+      record { returned = record { code_is = c ∙ ap code_of e; place_is = p ∙ ap place_in e; byte_is = sym (forget-zero s k) }; left = rw (← e, m.journal_is, ← e) }

@@ -36,7 +36,7 @@ written_in h (refused f) old = old
 pub record Returned {A : Type 0} (a : Answer A) (code place byte : ℕ) : Type 0 where
   pub code_is : code ≡ code_of a
   pub place_is : place ≡ place_in a
-  pub byte-is : byte ≡ byte_in a
+  pub byte_is : byte ≡ byte_in a
 
 -- and of a call that answers with one number, the bytes written or a person: that number
 pub record ReturnedNumber (a : Answer ℕ) (code place byte number₀ number : ℕ) : Type 0 where
@@ -53,15 +53,15 @@ pub record ReturnedEnds (a : Answer Extent) (code place byte from₀ from to₀ 
 pub record Called (s : State) (a : Answer State) (code place byte size used standing : ℕ) (file journal : List ℕ) : Type 0 where
   pub returned : Returned a code place byte
   pub size_is : size ≡ (at_exit s a).size
-  pub used-is : used ≡ (at_exit s a).used
-  pub standing-is : standing ≡ (at_exit s a).standing
-  pub file-is : file ≡ (at_exit s a).file
-  pub journal-is : journal ≡ (at_exit s a).journal
+  pub used_is : used ≡ (at_exit s a).used
+  pub standing_is : standing ≡ (at_exit s a).standing
+  pub file_is : file ≡ (at_exit s a).file
+  pub journal_is : journal ≡ (at_exit s a).journal
 
 -- of the call with many requests: the refusal that stopped it, how many were done, and the three numbers and both buffers then
 pub record CalledBatch (b : Batch) (code place byte done size used standing : ℕ) (file journal : List ℕ) : Type 0 where
   pub returned : Returned (unless b.stopped) code place byte
-  pub done-is : done ≡ b.done
+  pub done_is : done ≡ b.done
   pub left : lent file size journal used standing ≡ b.state
 
 -- of the call that forgets, which tells no byte: the journal with its two numbers, as it returns
@@ -73,5 +73,5 @@ pub record CalledOnJournal (s : Lent) (a : Answer Lent) (code place : ℕ) (t : 
 pub record ReturnedNumbers (a : Answer Numbers) (code place byte size₀ size used₀ used standing₀ standing : ℕ) : Type 0 where
   pub returned : Returned a code place byte
   pub size_is : size ≡ written_in (λ n. n.size) a size₀
-  pub used-is : used ≡ written_in (λ n. n.used) a used₀
-  pub standing-is : standing ≡ written_in (λ n. n.standing) a standing₀
+  pub used_is : used ≡ written_in (λ n. n.used) a used₀
+  pub standing_is : standing ≡ written_in (λ n. n.standing) a standing₀

@@ -1,4 +1,4 @@
-// The words that every definition uses, and the laws on lists and tests that every proof cites. Of code only 01's bounds.
+// The words that every definition uses, and the laws on lists and tests that every proof cites. Of code only 01's bounds and one copy.
 
 #![tactic(auto)]
 

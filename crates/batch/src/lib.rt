@@ -20,7 +20,7 @@ use wellformed::Checked;
 
 // What a batch did: all requests, or those before one that was refused. Either way how many were done, the file's length and the journal's two
 // numbers.
-#[derive(Drop)]
+#[derive(Clone, Copy)]
 pub enum Batched {
     All {
         done: usize,
@@ -95,8 +95,8 @@ fn run(
     person: u16,
     list: &[u8],
 ) -> Batched
-    requires tt_value { given tt ≡ passed (opened (lent file.old size journal.old used standing)) }
-    requires list_value { there (read_requests list.now) ≡ true }
+    requires opens { given tt ≡ passed (opened (lent file.old size journal.old used standing)) }
+    requires list_reads { there (read_requests list.now) ≡ true }
     ensures { spec.Made (spec.batch (lent file.old size journal.old used standing) (Person person) list.now) result file.new journal.new }
 {
     let mut at: usize = 0;

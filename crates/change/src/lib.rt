@@ -23,7 +23,7 @@ use line::Line;
 use rows::Found;
 
 // What is asked for: a key is set to a text, or removed.
-#[derive(Drop)]
+#[derive(Clone, Copy)]
 pub enum Operation {
     Set,
     Remove,
@@ -42,7 +42,7 @@ pub enum Target {
 }
 
 // Where an entry comes in behind a group, its LF after it or before it; nowhere without the group.
-#[derive(Drop)]
+#[derive(Clone, Copy)]
 pub enum Slot {
     At { place: usize, after: bool },
     Nowhere,

@@ -277,9 +277,9 @@ module _ (s : List ℕ) (at : ℕ) (w : SoundFrom s at) where
       let a : length s - 3 ≡ k = omega arith in
       let b : length s - 2 ≡ k + 1 = omega arith in
       let c : length s - 1 ≡ k + 2 = omega arith in
-      rw (done s (k + 3) (omega arith)) (finished (get_or s k 0) (get_or s (k + 1) 0) (get_or s (k + 2) 0) y (rw (a, b, c) at w.none-due))
+      rw (done s (k + 3) (omega arith)) (finished (get_or s k 0) (get_or s (k + 1) 0) (get_or s (k + 2) 0) y (rw (a, b, c) at w.none_due))
   run (suc n) k {d} h e y =
-      let t = one_more (get_or s k 0) (get_or s (k + 1) 0) (get_or s (k + 2) 0) (get_or s (k + 3) 0) y (w.all-follow k h (omega arith)) in
+      let t = one_more (get_or s k 0) (get_or s (k + 1) 0) (get_or s (k + 2) 0) (get_or s (k + 3) 0) y (w.all_follow k h (omega arith)) in
       let a : k + 1 + 1 ≡ k + 2 = omega arith in
       let b : k + 1 + 2 ≡ k + 3 = omega arith in
       let c : k + 1 + 3 ≡ k + 3 + 1 = omega arith in
@@ -302,7 +302,7 @@ followed-more s i k f e j l h = by-test (ltb j k) (λ t. f j l (ltb-true j k t))
 
 -- no due byte is asked, where less is looked at
 pub sound-less : (s : List ℕ) (a b : ℕ) → a ≤ b → SoundFrom s a → SoundFrom s b
-sound-less s a b h w = record { all-follow = λ k l m. w.all-follow k (omega arith) m; none-due = w.none-due }
+sound-less s a b h w = record { all_follow = λ k l m. w.all_follow k (omega arith) m; none_due = w.none_due }
 
 -- plain bytes in front change nothing
 pub plain-front : (n : ℕ) (s : List ℕ) → all value_byte (take n s) ≡ true → text_fault value_byte Start (drop n s) ≡ none → text_fault value_byte Start s ≡ none

@@ -32,5 +32,5 @@ FollowedTo s from to = (i : ℕ) → from ≤ i → i < to → followed_at s i �
 
 -- each byte behind the three at a place may follow, and nothing is due after the last
 pub record SoundFrom (s : List ℕ) (at : ℕ) : Type 0 where
-  pub all-follow : FollowedTo s at (length s - 3)
-  pub none-due : due_after (get_or s (length s - 3) 0) (get_or s (length s - 2) 0) (get_or s (length s - 1) 0) ≡ false
+  pub all_follow : FollowedTo s at (length s - 3)
+  pub none_due : due_after (get_or s (length s - 3) 0) (get_or s (length s - 2) 0) (get_or s (length s - 1) 0) ≡ false

@@ -22,28 +22,28 @@ pub enum Content {
 
 // What UTF-8 has yet to bring: nothing, as a character may begin, or the rest of one that was begun, a byte from low to high and after it
 // so many from 0x80 to 0xBF.
-#[derive(Drop)]
+#[derive(Clone, Copy)]
 pub enum Due {
     Start,
     Tail { more: u8, low: u8, high: u8 },
 }
 
 // What is due after a byte; none where no text goes on so.
-#[derive(Drop)]
+#[derive(Clone, Copy)]
 pub enum Next {
     Is(Due),
     Stop,
 }
 
 // Where a character ends, or where it does not go on.
-#[derive(Drop)]
+#[derive(Clone, Copy)]
 pub enum Rest {
     End(usize),
     Fault(usize),
 }
 
 // Whether bytes are text, or where they stop to be.
-#[derive(Drop)]
+#[derive(Clone, Copy)]
 pub enum Scan {
     Sound,
     Fault(usize),

@@ -140,9 +140,9 @@ words-one program taken [] e = omega arith
 words-one true taken (w ∷ ws) e = words-next true taken w ws e (words-one false (takes_files (argument_of w) || taken) ws)
 words-one false taken (w ∷ ws) e = words-next false taken w ws e (words-one false (takes_files (argument_of w) || taken) ws)
 
-pub one-takes-files : OneTakesFiles
+pub one_takes_files : OneTakesFiles
 unfolding read_command
-one-takes-files exec args = go (words_fault true false (words exec)) refl
+one_takes_files exec args = go (words_fault true false (words exec)) refl
   where
     go : (o : Option Fault) → words_fault true false (words exec) ≡ o → (unless o >>= λ _. given (arguments_in exec)) ≡ given args → all_file_codes args ≤ 1
     go none f e = let a : arguments_in exec ≡ args = cc in rw (← a) (words-one true false (words exec) f)

@@ -13,7 +13,7 @@ ghost use Rattle.command.specs.Step as step;
 use fault::Fault;
 
 // A piece of an argument: a byte that stands for itself, or what a field code puts in.
-#[derive(Drop)]
+#[derive(Clone, Copy)]
 pub enum Piece {
     Byte(u8),
     Item,
@@ -23,7 +23,7 @@ pub enum Piece {
 }
 
 // Which kind of argument a word is: quoted, F or U, i, or any other.
-#[derive(Drop)]
+#[derive(Clone, Copy)]
 pub enum Form {
     Quoted,
     Files,
@@ -32,14 +32,14 @@ pub enum Form {
 }
 
 // Whether a piece may stand where it does.
-#[derive(Drop)]
+#[derive(Clone, Copy)]
 pub enum Verdict {
     Sound,
     Refused(Fault),
 }
 
 // Which codes stand in a command: one that takes files, f or u, c, i.
-#[derive(Drop)]
+#[derive(Clone, Copy)]
 pub struct Seen {
     pub taken: bool,
     pub item: bool,
@@ -48,7 +48,7 @@ pub struct Seen {
 }
 
 // A check's answer: which codes stand, or the fault of the lowest place.
-#[derive(Drop)]
+#[derive(Clone, Copy)]
 pub enum Checked {
     Sound(Seen),
     Refused(Fault),

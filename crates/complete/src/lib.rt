@@ -16,7 +16,7 @@ use line::Line;
 use rows::Found;
 
 // Complete, or the fault 18.
-#[derive(Drop)]
+#[derive(Clone, Copy)]
 pub enum Completed {
     Complete,
     Refused(Fault),

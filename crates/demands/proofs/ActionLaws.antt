@@ -140,7 +140,7 @@ reads-bodies p = rw (← p.written) (list_back 2 (length (list_of 2 p.bs)) p.bs 
 -- the identifiers of a list that was read back
 menu-ids : {file locale : List ℕ} {menu : List Action} (m : Menu file locale menu) (p : Passed file m.out) → map (λ a. a.id) menu ≡ listed_from (read_rows file) [] p.ids
 menu-ids {menu = menu} m p =
-    same-bodies menu p.labels.list (some-injective _ _ (sym m.reads-back ∙ reads-bodies p) ∙ sym p.labels.bodies-are) ∙ p.labels.are
+    same-bodies menu p.labels.list (some-injective _ _ (sym m.reads_back ∙ reads-bodies p) ∙ sym p.labels.bodies-are) ∙ p.labels.are
 
 -- ---- the laws
 
@@ -148,7 +148,7 @@ pub list-reads-back : ListReadsBack
 unfolding ListReadsBack
 list-reads-back file locale out e =
     let p = passed file locale out e in
-    (p.labels.list, record { out = out; is = e; reads-back = reads-bodies p ∙ ap some (sym p.labels.bodies-are) }, refl)
+    (p.labels.list, record { out = out; is = e; reads_back = reads-bodies p ∙ ap some (sym p.labels.bodies-are) }, refl)
 
 pub listed-can-be-asked : ListedCanBeAsked
 unfolding ListedCanBeAsked expand_action

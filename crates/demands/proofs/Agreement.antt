@@ -111,16 +111,16 @@ module _ (s : State) (b : Book) (h : Rep s b) where
   pub small : AllSmall (reverse_aux h.es h.ws)
   small = small-reverse h.es h.ws (past-small b.file_room b.start b.standing h.es h.stood) (next_small b.file_room (book_file b) b.waiting h.ws h.waits)
 
-  journal-is : journal_in (journal_of s) ≡ given (record { stand = h.es; wait = h.ws })
-  journal-is = rw (h.bytes, h.standing, journal-back h.es h.ws small)
+  journal_is : journal_in (journal_of s) ≡ given (record { stand = h.es; wait = h.ws })
+  journal_is = rw (h.bytes, h.standing, journal-back h.es h.ws small)
 
   pub opens : opened s ≡ given (record { stand = h.es; wait = h.ws })
   unfolding opened file_checked lengths_fit
-  opens = rw (le-leb s.size (length s.file) h.size, numbers_fit_lem, h.text, checks (book_file b) h.well, journal-is)
+  opens = rw (le-leb s.size (length s.file) h.size, numbers_fit_lem, h.text, checks (book_file b) h.well, journal_is)
 
   pub opens-journal : alone.opened (journal_of s) ≡ given (record { stand = h.es; wait = h.ws })
   unfolding alone.opened
-  opens-journal = rw (numbers_fit_lem, journal-is)
+  opens-journal = rw (numbers_fit_lem, journal_is)
 
 -- ---- one call
 
@@ -403,7 +403,7 @@ pub as-in-the-book : (calls : List Call) (s : State) (b : Book) → all person_f
 as-in-the-book calls s b p h =
     let a = agrees calls s b p h in
     let r = a.rep-after in
-    record { tells = a.tells_all; file-is = r.text; standing-is = r.standing ∙ sym (past-lengths _ _ _ _ r.stood) }
+    record { tells = a.tells_all; file_is = r.text; standing_is = r.standing ∙ sym (past-lengths _ _ _ _ r.stood) }
 
 pub demand3 : Demand3
 unfolding Demand3

@@ -21,7 +21,7 @@ use Rattle.command.specs.Command.{Argument, Files, Text, is_name, is_icon, has_p
 use Rattle.command.specs.Laws.{all_file_codes}
 use Rattle.command.specs.declared.Piece.{Piece}
 use Rattle.command.specs.declared.Piece.TheVariants as piece
-use Rattle.command.proofs.Takers.{one-takes-files}
+use Rattle.command.proofs.Takers.{one_takes_files}
 use Rattle.run.specs.Run.{Run, pieces_bytes, expanded_all, runs, runs_of}
 use Rattle.exec.specs.Expand.{fit_item, name_text, icon_text}
 use Rattle.demands.specs.Commands.{Expander, command_in, Expansion, takes_item, run_count, FilesReach, FilesReachTheProgram, FilesReachTheAction}
@@ -39,7 +39,7 @@ module _ {by : Expander} (w : Known by) where
   one_code file command e =
       let a = some-given (find_row (read_rows file) (Key by.group (ascii "Exec"))) Missing (λ r. (read_text (raw_value r) >>= read_command)) command e in
       let b = bind-given (read_text (raw_value a.0)) read_command command a.2 in
-      one-takes-files b.0 command b.2
+      one_takes_files b.0 command b.2
 
   -- ---- the arguments
 
@@ -64,7 +64,7 @@ module _ {by : Expander} (w : Known by) where
         commanded = c;
         listed = w;
         written = e;
-        is = some-injective _ _ (sym x.reads-back ∙ output-back s x.files w run e);
+        is = some-injective _ _ (sym x.reads_back ∙ output-back s x.files w run e);
       }
 
   read_back : (file locale location list : List ℕ) (run : ℕ) (out : List ℕ) → by.expansion file locale location list run ≡ given out → Expansion by file locale location list run out
@@ -78,7 +78,7 @@ module _ {by : Expander} (w : Known by) where
         commanded = sound-command s;
         listed = p.listed.reads;
         is = e;
-        reads-back = output-back s p.items p.listed run p.written;
+        reads_back = output-back s p.items p.listed run p.written;
       }
 
   -- ---- around the files
@@ -138,7 +138,7 @@ module _ {by : Expander} (w : Known by) where
       record { reads = one-reads item (each_at (items-short list x.files k.listed.reads) run h); fit = rw (all-at fit_item x.files run k.listed.fit h) } in
       let a = accepts w file locale location (list_of 2 (item ∷ [])) 0 s (item ∷ []) one (some-run (takes_item s.command) 1 (omega arith)) in
       let y : Expansion by file locale location (list_of 2 (item ∷ [])) 0 (list_of 3 (arguments_of s (item ∷ []) 0)) =
-      record { command = s.command; files = item ∷ []; args = arguments_of s (item ∷ []) 0; commanded = sound-command s; listed = one.reads; is = a; reads-back = output-back s (item ∷ []) one 0 refl } in
+      record { command = s.command; files = item ∷ []; args = arguments_of s (item ∷ []) 0; commanded = sound-command s; listed = one.reads; is = a; reads_back = output-back s (item ∷ []) one 0 refl } in
       let same = f (list_of 2 (item ∷ [])) 0 (list_of 3 (arguments_of s (item ∷ []) 0)) y (k.commanded ∙ v.is) (omega arith) ∙ sym (f list run out x v.is h) in
       a ∙ ap (λ (l : List (List ℕ)). given (list_of 3 l)) (same ∙ k.is) ∙ ap given (sym k.written)
 
@@ -164,12 +164,12 @@ module _ {by : Expander} (w : Known by) where
 
   pub files-reach : FilesReach by
   files-reach = record {
-    arguments-read-back = read_back;
-    one-takes-files = one_code;
-    files-are-whole = whole;
-    file-stands-inside = inside;
-    no-other-file = alone;
-    runs-are-numbered = numbered;
+    arguments_read_back = read_back;
+    one_takes_files = one_code;
+    files_are_whole = whole;
+    file_stands_inside = inside;
+    no_other_file = alone;
+    runs_are_numbered = numbered;
   }
 
 pub files-reach-the-program : FilesReachTheProgram

@@ -22,7 +22,7 @@ use Rattle.abi.specs.Abi.{code_of, place_in, byte_in, Returned}
 use Rattle.demands.specs.Book.{Call, Do, Undo, Redo, Forget, book_call}
 use Rattle.demands.specs.Demand3.{with_journal, state_call, person_fits, writes_kind, Told, told_of, told, told_over, left_by, start_state, start_book}
 use Rattle.demands.specs.Batches.{each_told, batch_told, InPlaceOf, AsTheCalls, BatchIsCalls}
-use Rattle.demands.specs.ByContracts.{Chain, no_call, one-call, Demand3Of, told_by, after, ByContract, made, forgot, batched, told_in, ByExport, called, forgotten, called-batch, Demand3OfContracts, Demand3OfExports}
+use Rattle.demands.specs.ByContracts.{Chain, no_call, one_call, Demand3Of, told_by, after, ByContract, made, forgot, batched, told_in, ByExport, called, forgotten, called_batch, Demand3OfContracts, Demand3OfExports}
 use Rattle.demands.proofs.Agreement.{agrees, start-rep, as-in-the-book}
 use Rattle.demands.proofs.BatchLaws.{single-call, more-calls, batch-is-calls}
 
@@ -44,14 +44,14 @@ module _ (step : State → List Call → List Told → State → Type 0)
   follows : {s : State} {cs : List Call} {xs : List Told} {u : State} → Chain step s cs xs u → AsTheCalls s cs xs u
   unfolding told_over left_by
   follows no_call = record { tells = refl; leaves = refl }
-  follows (one-call {s} {t} {cs = cs} {xs = xs} d h) = more-calls (defined s cs xs t d) (follows h)
+  follows (one_call {s} {t} {cs = cs} {xs = xs} d h) = more-calls (defined s cs xs t d) (follows h)
 
   demand3-of : Demand3Of step
   demand3-of start rest journal olds calls tolds s h o p k =
       let w = follows k in
       let begun = agrees olds (start_state start rest journal) (start_book start (length (start ++ rest)) (length journal)) (all_weaker (writes_kind 1) person_fits old-fits olds o) (start-rep start rest journal h) in
       let d = as-in-the-book calls (left_by state_call (start_state start rest journal) olds) (left_by book_call (start_book start (length (start ++ rest)) (length journal)) olds) p begun.rep-after in
-      record { tells = w.tells ∙ d.tells; file-is = ap content w.leaves ∙ d.file-is; standing-is = ap (λ (t : State). t.standing) w.leaves ∙ d.standing-is }
+      record { tells = w.tells ∙ d.tells; file_is = ap content w.leaves ∙ d.file_is; standing_is = ap (λ (t : State). t.standing) w.leaves ∙ d.standing_is }
 
 -- ---- the functions of `edit`
 
@@ -89,7 +89,7 @@ demand3-of-contracts = demand3-of ByContract defined
     defined _ _ _ _ (forgot {s} {k} {r} {journal} m) =
         single-call
         (ap told m.answer ∙ told-then (with_journal s) (forget (journal_of s) k))
-        (ap (λ (a : Answer Lent). with_journal s (at_exit (alone.lent journal s.used s.standing) a)) m.answer ∙ leaves-forgot s (forget (journal_of s) k) journal m.journal-is)
+        (ap (λ (a : Answer Lent). with_journal s (at_exit (alone.lent journal s.used s.standing) a)) m.answer ∙ leaves-forgot s (forget (journal_of s) k) journal m.journal_is)
     defined _ _ _ _ (batched m p) = as-batch (ap batch_told m.is) (ap (λ (b : Batch). b.state) m.is) p
 
 -- ---- the exported functions
@@ -120,7 +120,7 @@ told_in_lem (given t) = refl
 told_in_lem (refused f) = refused-in f
 
 told-returned : {A : Type 0} (a : Answer A) {code place byte : ℕ} → Returned a code place byte → told_in code place byte ≡ told a
-told-returned a w = rw (w.code_is, w.place_is, w.byte-is) (told_in_lem a)
+told-returned a w = rw (w.code_is, w.place_is, w.byte_is) (told_in_lem a)
 
 left-forgot : (s : State) (a : Answer Lent) → with_journal s (at_exit (journal_of s) a) ≡ at_exit s (then (with_journal s) a)
 left-forgot s (given t) = refl
@@ -134,8 +134,8 @@ demand3-of-exports = demand3-of ByExport defined
     defined _ _ _ _ (called {s} {c} m) =
         single-call
         (told-returned (state_call s c) m.returned)
-        (λ i. record { file = m.file-is i; size = m.size_is i; journal = m.journal-is i; used = m.used-is i; standing = m.standing-is i })
+        (λ i. record { file = m.file_is i; size = m.size_is i; journal = m.journal_is i; used = m.used_is i; standing = m.standing_is i })
     defined _ _ _ _ (forgotten {s} {k} m) =
         let a : Answer Lent = forget (journal_of s) k in
         single-call (told-returned a m.returned ∙ told-then (with_journal s) a) (ap (with_journal s) m.left ∙ left-forgot s a)
-    defined _ _ _ _ (called-batch m p) = as-batch (λ i. each_told (m.done-is i) (told-returned _ m.returned i)) m.left p
+    defined _ _ _ _ (called_batch m p) = as-batch (λ i. each_told (m.done_is i) (told-returned _ m.returned i)) m.left p

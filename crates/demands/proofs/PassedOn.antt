@@ -69,14 +69,14 @@ pub check-passed-on : CheckPassedOn
 unfolding CheckPassedOn file_checked complete lookup choose asked_items expand spec.actions spec.expand_action batch listed opened
 check-passed-on file f e =
     record {
-      complete-refuses = rw e;
-      lookup-refuses = λ group key. rw e;
-      choose-refuses = λ group key locale. rw e;
-      expand-refuses = λ locale location list run. rw e;
-      actions-refuses = λ locale. rw e;
-      expand-action-refuses = λ action locale location list run. rw e;
-      edits-refuse = λ s c h l i. edit-refuses s f c h l (ap check i ∙ e);
-      batch-refuses = λ s author list l i. rw (l, i, e);
+      complete_refuses = rw e;
+      lookup_refuses = λ group key. rw e;
+      choose_refuses = λ group key locale. rw e;
+      expand_refuses = λ locale location list run. rw e;
+      actions_refuses = λ locale. rw e;
+      expand_action_refuses = λ action locale location list run. rw e;
+      edits_refuse = λ s c h l i. edit-refuses s f c h l (ap check i ∙ e);
+      batch_refuses = λ s author list l i. rw (l, i, e);
     }
 
 -- ---- what the calls ask after the check
@@ -126,10 +126,10 @@ edit-tells s (Forget k) line byte e =
 -- ---- a batch
 
 -- 2 comes from what it asks first: an accepted request leaves a well-formed file
-batch-tells : (s : State) (author : Author) (list : List ℕ) (line byte : ℕ) → (batch s author list).stopped ≡ some (BadLine line byte)
+batch_tells : (s : State) (author : Author) (list : List ℕ) (line byte : ℕ) → (batch s author list).stopped ≡ some (BadLine line byte)
     → check (content s) ≡ refused (BadLine line byte)
 unfolding batch listed EditKeepsWellFormed
-batch-tells s author list line byte = go (listed s list) refl
+batch_tells s author list line byte = go (listed s list) refl
   where
     go : (a : Answer (List Request)) → listed s list ≡ a → (begun s author a).stopped ≡ some (BadLine line byte) → check (content s) ≡ refused (BadLine line byte)
     go (refused f) h e = opened-tells s line byte (came-first (opened s) _ line byte (λ _. if_some Not2 (read_requests list) Damaged _ refl (λ _. tt)) (h ∙ ap refused (cc)))
@@ -245,9 +245,9 @@ records-not2 : (rs : List Row) (group locale location : List ℕ) (items : List 
     → IfRefused Not2 (group_arguments rs group locale location items run >>= λ args. given (list_of 3 args))
 records-not2 rs group locale location items run = if-bind Not2 (group_arguments rs group locale location items run) _ (group-not2 rs group locale location items run) (λ args. tt)
 
-expand-tells : (file locale location list : List ℕ) (run line byte : ℕ) → expand file locale location list run ≡ refused (BadLine line byte) → check file ≡ refused (BadLine line byte)
+expand_tells : (file locale location list : List ℕ) (run line byte : ℕ) → expand file locale location list run ≡ refused (BadLine line byte) → check file ≡ refused (BadLine line byte)
 unfolding expand
-expand-tells file locale location list run line byte e =
+expand_tells file locale location list run line byte e =
     asked-tells file locale location list line byte
     (came-first (asked_items file locale location list) _ line byte (λ items. records-not2 (read_rows file) desktop_entry locale location items run) e)
 
@@ -262,18 +262,18 @@ labelled-not2 rs locale (id ∷ ids) =
     if-bind Not2 (name_in rs (spec.action_group id) locale) _ (name-in-not2 rs (spec.action_group id) locale)
     (λ label. if-bind Not2 (spec.labelled rs locale ids) _ (labelled-not2 rs locale ids) (λ later. tt))
 
-actions-tells : (file locale : List ℕ) (line byte : ℕ) → spec.actions file locale ≡ refused (BadLine line byte) → check file ≡ refused (BadLine line byte)
+actions_tells : (file locale : List ℕ) (line byte : ℕ) → spec.actions file locale ≡ refused (BadLine line byte) → check file ≡ refused (BadLine line byte)
 unfolding spec.actions
-actions-tells file locale line byte =
+actions_tells file locale line byte =
     came-first (check file) _ line byte
     (λ _. if-need Not2 (locale_form locale) BadArgument _ refl
     (λ _. if-bind Not2 (spec.listed (read_rows file)) _ (listed-not2 (read_rows file))
     (λ ids. if-bind Not2 (spec.labelled (read_rows file) locale ids) _ (labelled-not2 (read_rows file) locale ids) (λ bodies. tt))))
 
-expand-action-tells : (file action locale location list : List ℕ) (run line byte : ℕ) → spec.expand_action file action locale location list run ≡ refused (BadLine line byte)
+expand_action_tells : (file action locale location list : List ℕ) (run line byte : ℕ) → spec.expand_action file action locale location list run ≡ refused (BadLine line byte)
     → check file ≡ refused (BadLine line byte)
 unfolding spec.expand_action
-expand-action-tells file action locale location list run line byte e =
+expand_action_tells file action locale location list run line byte e =
     asked-tells file locale location list line byte
     (came-first (asked_items file locale location list) _ line byte
     (λ items. if-bind Not2 (spec.listed (read_rows file)) _ (listed-not2 (read_rows file))
@@ -285,14 +285,14 @@ pub bad-line-told-by-calls : BadLineToldByCalls
 unfolding BadLineToldByCalls BadLineTold complete lookup choose
 bad-line-told-by-calls file =
     record {
-      complete-tells = λ line byte e. so line byte (came-first (check file) _ line byte (λ _. complete-not2 (read_rows file)) e);
-      lookup-tells = λ group key line byte e. so line byte (came-first (check file) _ line byte (λ _. if-need Not2 (group_form group && key_form key) BadArgument _ refl (λ _. if_some Not2 (find_row (read_rows file) (Key group key)) Missing _ refl (λ r. tt))) e);
-      choose-tells = λ group key locale line byte e. so line byte (came-first (check file) _ line byte (λ _. if-need Not2 (group_form group && plain_form key && locale_form locale) BadArgument _ refl (λ _. if_some Not2 (chosen (read_rows file) group key locale) Missing _ refl (λ r. tt))) e);
-      expand-tells = λ locale location list run line byte e. so line byte (expand-tells file locale location list run line byte e);
-      actions-tells = λ locale line byte e. so line byte (actions-tells file locale line byte e);
-      expand-action-tells = λ action locale location list run line byte e. so line byte (expand-action-tells file action locale location list run line byte e);
-      edits-tell = λ s c i line byte e. so line byte (ap check (sym i) ∙ edit-tells s c line byte e);
-      batch-tells = λ s author list i line byte e. so line byte (ap check (sym i) ∙ batch-tells s author list line byte (unless-refused (batch s author list).stopped (BadLine line byte) e));
+      complete_tells = λ line byte e. so line byte (came-first (check file) _ line byte (λ _. complete-not2 (read_rows file)) e);
+      lookup_tells = λ group key line byte e. so line byte (came-first (check file) _ line byte (λ _. if-need Not2 (group_form group && key_form key) BadArgument _ refl (λ _. if_some Not2 (find_row (read_rows file) (Key group key)) Missing _ refl (λ r. tt))) e);
+      choose_tells = λ group key locale line byte e. so line byte (came-first (check file) _ line byte (λ _. if-need Not2 (group_form group && plain_form key && locale_form locale) BadArgument _ refl (λ _. if_some Not2 (chosen (read_rows file) group key locale) Missing _ refl (λ r. tt))) e);
+      expand_tells = λ locale location list run line byte e. so line byte (expand_tells file locale location list run line byte e);
+      actions_tells = λ locale line byte e. so line byte (actions_tells file locale line byte e);
+      expand_action_tells = λ action locale location list run line byte e. so line byte (expand_action_tells file action locale location list run line byte e);
+      edits_tell = λ s c i line byte e. so line byte (ap check (sym i) ∙ edit-tells s c line byte e);
+      batch_tells = λ s author list i line byte e. so line byte (ap check (sym i) ∙ batch_tells s author list line byte (unless-refused (batch s author list).stopped (BadLine line byte) e));
     }
   where
     so : (line byte : ℕ) → check file ≡ refused (BadLine line byte) → BadAt file line byte

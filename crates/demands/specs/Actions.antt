@@ -26,7 +26,7 @@ bodies (a ∷ menu) = a.id ∷ a.label ∷ bodies menu
 pub record Menu (file locale : List ℕ) (menu : List Action) : Type 0 where
   pub out : List ℕ
   pub is : actions file locale ≡ given out
-  pub reads-back : read_list 2 (length out) out ≡ some (bodies menu)
+  pub reads_back : read_list 2 (length out) out ≡ some (bodies menu)
 
 -- an identifier is among those listed
 abbrev pub is_listed : List ℕ → List Action → Bool

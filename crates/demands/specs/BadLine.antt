@@ -49,14 +49,14 @@ BadLineTold = (file : List ℕ) → TellsOf file (check file)
 
 -- so of every other call on a file
 pub record CallsTell (file : List ℕ) : Type 0 where
-  pub complete-tells : TellsOf file (complete file)
-  pub lookup-tells : (group key : List ℕ) → TellsOf file (lookup file group key)
-  pub choose-tells : (group key locale : List ℕ) → TellsOf file (choose file group key locale)
-  pub expand-tells : (locale location list : List ℕ) (run : ℕ) → TellsOf file (expand file locale location list run)
-  pub actions-tells : (locale : List ℕ) → TellsOf file (actions file locale)
-  pub expand-action-tells : (action locale location list : List ℕ) (run : ℕ) → TellsOf file (expand_action file action locale location list run)
-  pub edits-tell : (s : State) (c : Call) → content s ≡ file → TellsOf file (state_call s c)
-  pub batch-tells : (s : State) (author : Author) (list : List ℕ) → content s ≡ file → TellsOf file (unless (batch s author list).stopped)
+  pub complete_tells : TellsOf file (complete file)
+  pub lookup_tells : (group key : List ℕ) → TellsOf file (lookup file group key)
+  pub choose_tells : (group key locale : List ℕ) → TellsOf file (choose file group key locale)
+  pub expand_tells : (locale location list : List ℕ) (run : ℕ) → TellsOf file (expand file locale location list run)
+  pub actions_tells : (locale : List ℕ) → TellsOf file (actions file locale)
+  pub expand_action_tells : (action locale location list : List ℕ) (run : ℕ) → TellsOf file (expand_action file action locale location list run)
+  pub edits_tell : (s : State) (c : Call) → content s ≡ file → TellsOf file (state_call s c)
+  pub batch_tells : (s : State) (author : Author) (list : List ℕ) → content s ≡ file → TellsOf file (unless (batch s author list).stopped)
 
 -- what the other calls tell of a bad line is so too
 unfoldable pub BadLineToldByCalls : Type 0
@@ -71,14 +71,14 @@ lends_file (Forget k) = false
 
 -- a refusal that every other call on a file gives; one that edits gives it where the lengths fit, and a batch has nothing done then
 pub record PassedOn (file : List ℕ) (f : Fault) : Type 0 where
-  pub complete-refuses : complete file ≡ refused f
-  pub lookup-refuses : (group key : List ℕ) → lookup file group key ≡ refused f
-  pub choose-refuses : (group key locale : List ℕ) → choose file group key locale ≡ refused f
-  pub expand-refuses : (locale location list : List ℕ) (run : ℕ) → expand file locale location list run ≡ refused f
-  pub actions-refuses : (locale : List ℕ) → actions file locale ≡ refused f
-  pub expand-action-refuses : (action locale location list : List ℕ) (run : ℕ) → expand_action file action locale location list run ≡ refused f
-  pub edits-refuse : (s : State) (c : Call) → lends_file c ≡ true → lengths_fit s ≡ true → content s ≡ file → state_call s c ≡ refused f
-  pub batch-refuses : (s : State) (author : Author) (list : List ℕ) → lengths_fit s ≡ true → content s ≡ file → batch s author list ≡ nothing s (some f)
+  pub complete_refuses : complete file ≡ refused f
+  pub lookup_refuses : (group key : List ℕ) → lookup file group key ≡ refused f
+  pub choose_refuses : (group key locale : List ℕ) → choose file group key locale ≡ refused f
+  pub expand_refuses : (locale location list : List ℕ) (run : ℕ) → expand file locale location list run ≡ refused f
+  pub actions_refuses : (locale : List ℕ) → actions file locale ≡ refused f
+  pub expand_action_refuses : (action locale location list : List ℕ) (run : ℕ) → expand_action file action locale location list run ≡ refused f
+  pub edits_refuse : (s : State) (c : Call) → lends_file c ≡ true → lengths_fit s ≡ true → content s ≡ file → state_call s c ≡ refused f
+  pub batch_refuses : (s : State) (author : Author) (list : List ℕ) → lengths_fit s ≡ true → content s ≡ file → batch s author list ≡ nothing s (some f)
 
 -- the check's refusal is passed on by all of them
 unfoldable pub CheckPassedOn : Type 0

@@ -23,7 +23,7 @@ use Rattle.demands.specs.Batches.{each_told, batch_told, InPlaceOf}
 -- lent s told xs and left t; cs is that call alone, or the calls that take a batch's place.
 pub data Chain (step : State → List Call → List Told → State → Type 0) : State → List Call → List Told → State → Type 0 where
   no_call : {s : State} → Chain step s [] [] s
-  one-call : {s t u : State} {cs ds : List Call} {xs ys : List Told} → step s cs xs t → Chain step t ds ys u → Chain step s (cs ++ ds) (xs ++ ys) u
+  one_call : {s t u : State} {cs ds : List Call} {xs ys : List Told} → step s cs xs t → Chain step t ds ys u → Chain step s (cs ++ ds) (xs ++ ys) u
 
 -- demand 3 of every chain of such calls, from what 01's calls and forgetting left from any well-formed file and an empty journal; these may
 -- be none
@@ -70,7 +70,7 @@ pub data ByExport : State → List Call → List Told → State → Type 0 where
       → ByExport s (c ∷ []) (told_in code place byte ∷ []) (lent file size journal used standing)
   forgotten : {s : State} {k code place : ℕ} {j : Lent}
       → CalledOnJournal (journal_of s) (forget (journal_of s) k) code place j → ByExport s (Forget k ∷ []) (told_in code place 0 ∷ []) (with_journal s j)
-  called-batch : {s : State} {author : Author} {list : List ℕ} {code place byte done size used standing : ℕ} {file journal : List ℕ} {cs : List Call} {xs : List Told}
+  called_batch : {s : State} {author : Author} {list : List ℕ} {code place byte done size used standing : ℕ} {file journal : List ℕ} {cs : List Call} {xs : List Told}
       → CalledBatch (batch s author list) code place byte done size used standing file journal → InPlaceOf s author list (each_told done (told_in code place byte)) cs xs
       → ByExport s cs xs (lent file size journal used standing)
 

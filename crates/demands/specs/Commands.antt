@@ -47,7 +47,7 @@ pub record Expansion (by : Expander) (file locale location list : List ℕ) (run
   pub commanded : command_in by.group file ≡ given command
   pub listed : read_list 2 list_most list ≡ some files
   pub is : by.expansion file locale location list run ≡ given out
-  pub reads-back : read_list 3 (length out) out ≡ some args
+  pub reads_back : read_list 3 (length out) out ≡ some args
 
 -- f or u stands in a command
 abbrev pub takes_item : List Argument → Bool
@@ -59,25 +59,25 @@ run_count command n = pick (takes_item command && not (eqb n 0)) n 1
 
 pub record FilesReach (by : Expander) : Type 0 where
   -- every accepted output reads back to its arguments
-  pub arguments-read-back : (file locale location list : List ℕ) (run : ℕ) (out : List ℕ) → by.expansion file locale location list run ≡ given out
+  pub arguments_read_back : (file locale location list : List ℕ) (run : ℕ) (out : List ℕ) → by.expansion file locale location list run ≡ given out
       → Expansion by file locale location list run out
   -- one code at most takes files
-  pub one-takes-files : (file : List ℕ) (command : List Argument) → command_in by.group file ≡ given command → all_file_codes command ≤ 1
+  pub one_takes_files : (file : List ℕ) (command : List Argument) → command_in by.group file ≡ given command → all_file_codes command ≤ 1
   -- F and U: each file is one whole argument with its own bytes, in the list's order; what stands before and after is the same for every list and run
-  pub files-are-whole : (file locale location : List ℕ) (front back : List Argument) → (r : Run)
+  pub files_are_whole : (file locale location : List ℕ) (front back : List Argument) → (r : Run)
       × ((list : List ℕ) (run : ℕ) (out : List ℕ) (x : Expansion by file locale location list run out) → x.command ≡ front ++ (Files ∷ back)
       → x.args ≡ expanded_all r front ++ (x.files ++ expanded_all r back))
   -- f and u: the run's own file stands with its bytes in the one argument that holds the code; what stands around it is the same for every list and run
-  pub file-stands-inside : (file locale location : List ℕ) (front back : List Argument) (quoted : Bool) (left right : List Piece) → (r : Run)
+  pub file_stands_inside : (file locale location : List ℕ) (front back : List Argument) (quoted : Bool) (left right : List Piece) → (r : Run)
       × ((list : List ℕ) (run : ℕ) (out : List ℕ) (x : Expansion by file locale location list run out)
       → x.command ≡ front ++ (Text quoted (left ++ (piece.Item ∷ right)) ∷ back) → run < length x.files
       → x.args ≡ expanded_all r front ++ ((pieces_bytes r.put left ++ (get_or x.files run [] ++ pieces_bytes r.put right)) ∷ expanded_all r back))
   -- f and u: the run is the one run of a list that holds only its own file, so no other file can be in it
-  pub no-other-file : (file locale location list : List ℕ) (run : ℕ) (out : List ℕ) (x : Expansion by file locale location list run out)
+  pub no_other_file : (file locale location list : List ℕ) (run : ℕ) (out : List ℕ) (x : Expansion by file locale location list run out)
       → takes_item x.command ≡ true → run < length x.files
       → by.expansion file locale location (list_of 2 (get_or x.files run [] ∷ [])) 0 ≡ given out
   -- the runs are numbered from 0, and any other number is 8
-  pub runs-are-numbered : (file locale location list : List ℕ) (run : ℕ) (out : List ℕ) (x : Expansion by file locale location list run out) (n : ℕ)
+  pub runs_are_numbered : (file locale location list : List ℕ) (run : ℕ) (out : List ℕ) (x : Expansion by file locale location list run out) (n : ℕ)
       → (n < run_count x.command (length x.files) → accepted (by.expansion file locale location list n) ≡ true)
       × (run_count x.command (length x.files) ≤ n → by.expansion file locale location list n ≡ refused Missing)
 

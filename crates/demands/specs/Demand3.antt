@@ -71,8 +71,8 @@ start_book start file_room journal_room = record { start = start; file_room = fi
 -- over a list of calls the buffers told what the book tells, the file's bytes are the book's file, and the standing number is the book's
 pub record AsInTheBook (b : Book) (calls : List Call) (tolds : List Told) (s : State) : Type 0 where
   pub tells : tolds ≡ told_over book_call b calls
-  pub file-is : content s ≡ book_file (left_by book_call b calls)
-  pub standing-is : s.standing ≡ book_standing (left_by book_call b calls)
+  pub file_is : content s ≡ book_file (left_by book_call b calls)
+  pub standing_is : s.standing ≡ book_standing (left_by book_call b calls)
 
 -- Demand 3: from any well-formed file and an empty journal, over any list of calls by persons whose numbers have two bytes. Where the first of
 -- them are 01's, the others start from the file and the journal of kind 1 that these left in the same two buffers, and their edits count, each

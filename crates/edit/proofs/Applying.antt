@@ -108,7 +108,7 @@ module _ (s : State) (e : Authored Edit) where
 
   -- a refusal changes nothing
   refused-made : {f : Fault} → applied s e ≡ refused f → Made s (applied s e) (Refused f) s.file s.journal
-  refused-made q = record { answer = rw q; file-is = rw q; journal-is = rw q }
+  refused-made q = record { answer = rw q; file_is = rw q; journal_is = rw q }
 
   module _ (h : e.what.place + length e.what.old ≤ length (content s)) where
     pub file-full : length s.file < length (content s) - length e.what.old + length e.what.new → Made s (applied s e) (Refused NoRoom) s.file s.journal
@@ -133,7 +133,7 @@ module _ (s : State) (e : Authored Edit) where
           → Made s (applied s e) (Done n m m) file journal
       all_made c d {n} {m} {file} {journal} u v x y =
           let q = made fits (fits_both (s.standing + edit_length e) (length s.journal) 65536 c d) in
-          record { answer = rw (q, u, v); file-is = rw q x; journal-is = rw q y }
+          record { answer = rw (q, u, v); file_is = rw q x; journal_is = rw q y }
 
 -- ---- a target's edit
 
@@ -158,7 +158,7 @@ used-free : (s : State) (u : ℕ) (author : Author) (a : Answer Edit) {r : Edite
     (applied_by (record { file = s.file; size = s.size; journal = s.journal; used = u; standing = s.standing }) author a) r file journal
     → Made s (applied_by s author a) r file journal
 unfolding applied
-used-free s u author (refused f) m = record { answer = m.answer; file-is = m.file-is; journal-is = m.journal-is }
+used-free s u author (refused f) m = record { answer = m.answer; file_is = m.file_is; journal_is = m.journal_is }
 used-free s u author (given e) {r} {file} {journal} m = go (file_fits (length s.file) (spliced e (content s))) (record_fits (length s.journal) s.standing (by author e)) m
   where
     t : State
@@ -175,9 +175,9 @@ used-free s u author (given e) {r} {file} {journal} m = go (file_fits (length s.
 
     go : (x y : Bool) → Made t (need x NoRoom >>= λ _. (need y JournalFull >>= λ _. given done)) r file journal
         → Made s (need x NoRoom >>= λ _. (need y JournalFull >>= λ _. given done)) r file journal
-    go true true m = record { answer = m.answer; file-is = m.file-is; journal-is = m.journal-is }
-    go true false m = record { answer = m.answer; file-is = m.file-is; journal-is = m.journal-is }
-    go false y m = record { answer = m.answer; file-is = m.file-is; journal-is = m.journal-is }
+    go true true m = record { answer = m.answer; file_is = m.file_is; journal_is = m.journal_is }
+    go true false m = record { answer = m.answer; file_is = m.file_is; journal_is = m.journal_is }
+    go false y m = record { answer = m.answer; file_is = m.file_is; journal_is = m.journal_is }
 
 module _ (s : State) (q : Authored Request) where
   -- not opened: the same refusal, and nothing changes
@@ -187,7 +187,7 @@ module _ (s : State) (q : Authored Request) where
     where
       go : (o : Answer Journal) → refused f ≡ passed o → Made s (o >>= λ _. applied_by s q.author (edit_of (content s) q.what)) (Refused f) s.file s.journal
       go (given j) h = no (cc)
-      go (refused g) h = let w : f ≡ g = cc in rw w (record { answer = refl; file-is = refl; journal-is = refl })
+      go (refused g) h = let w : f ≡ g = cc in rw w (record { answer = refl; file_is = refl; journal_is = refl })
 
   -- opened: the request is the edit's
   pub was-opened : given tt ≡ passed (opened s) → {r : Edited} {file journal : List ℕ}
@@ -204,7 +204,7 @@ module _ (s : State) (q : Authored Request) where
 
 module _ {s : State} {a : Answer State} {file journal : List ℕ} where
   pub made-done : {size used standing : ℕ} → Made s a (Done size used standing) file journal → a ≡ given (lent file size journal used standing)
-  made-done {size} {used} {standing} m = go a m.answer m.file-is m.journal-is
+  made-done {size} {used} {standing} m = go a m.answer m.file_is m.journal_is
     where
       go : (a : Answer State) → given (record { size = size; used = used; standing = standing }) ≡ then numbers_of a → file ≡ (at_exit s a).file → journal ≡ (at_exit s a).journal
           → a ≡ given (lent file size journal used standing)
@@ -216,7 +216,7 @@ module _ {s : State} {a : Answer State} {file journal : List ℕ} where
           λ i. given (record { file = sym f-is i; size = (n i).size; journal = sym j-is i; used = (n i).used; standing = (n i).standing })
 
   pub made-refused : {f : Fault} → Made s a (Refused f) file journal → (a ≡ refused f) × (file ≡ s.file) × (journal ≡ s.journal)
-  made-refused {f} m = go a m.answer m.file-is m.journal-is
+  made-refused {f} m = go a m.answer m.file_is m.journal_is
     where
       go : (a : Answer State) → refused f ≡ then numbers_of a → file ≡ (at_exit s a).file → journal ≡ (at_exit s a).journal → (a ≡ refused f) × (file ≡ s.file) × (journal ≡ s.journal)
       go (given t) h f-is j-is = no (cc)

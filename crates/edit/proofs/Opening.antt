@@ -56,9 +56,9 @@ ready-fits s e =
       numbers = n;
       ready = record {
         size_fits = f;
-        size-bound = omega (arith, length-take-le s.size s.file f, g.1);
-        standing-bound = omega (arith, n.standing-fits, n.used-bound);
-        none-bad = g.0;
+        size_bound = omega (arith, length-take-le s.size s.file f, g.1);
+        standing_bound = omega (arith, n.standing-fits, n.used-bound);
+        no_bad_line = g.0;
       };
     }
 

@@ -123,7 +123,7 @@ way-steps Redo s = record {
 -- what the call answers and leaves
 module _ {s : State} {from : Answer Placed} {turn : Edit → Edit} {number : Placed → ℕ} {call : Answer State} (w : Steps s from turn number call) where
   refused-so : {f : Fault} → call ≡ refused f → Made s call (edited.Refused f) s.file s.journal
-  refused-so e = record { answer = rw e; file-is = rw e; journal-is = w.keeps }
+  refused-so e = record { answer = rw e; file_is = rw e; journal_is = w.keeps }
 
   pub made-unready : {f : Fault} → refused f ≡ file_checked s → Made s call (edited.Refused f) s.file s.journal
   made-unready e = refused-so (w.is ∙ rw (← e))
@@ -139,4 +139,4 @@ module _ {s : State} {from : Answer Placed} {turn : Edit → Edit} {number : Pla
     made_again {p} g a b =
         let e : Edit = turn p.edit in
         let i : call ≡ replayed s e (number p) = w.is ∙ rw (← r, ← g) in
-        record { answer = a ∙ sym (rw i (replayed-numbers s e (number p))); file-is = b ∙ sym (rw i (replayed-file s e (number p))); journal-is = w.keeps }
+        record { answer = a ∙ sym (rw i (replayed-numbers s e (number p))); file_is = b ∙ sym (rw i (replayed-file s e (number p))); journal_is = w.keeps }

@@ -136,5 +136,5 @@ answered (edited.Refused f) = refused f
 -- a call that answers so and leaves these bytes in both buffers
 pub record Made (s : State) (a : Answer State) (r : Edited) (file journal : List ℕ) : Type 0 where
   pub answer : answered r ≡ then numbers_of a
-  pub file-is : file ≡ (at_exit s a).file
-  pub journal-is : journal ≡ (at_exit s a).journal
+  pub file_is : file ≡ (at_exit s a).file
+  pub journal_is : journal ≡ (at_exit s a).journal

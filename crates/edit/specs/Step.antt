@@ -20,9 +20,9 @@ passed (refused f) = refused f
 -- stands is not too long
 pub record Ready (file : List ℕ) (size standing : ℕ) : Type 0 where
   pub size_fits : size ≤ length file
-  pub size-bound : size ≤ file_most
-  pub standing-bound : standing ≤ journal_most
-  pub none-bad : none_bad (take size file) ≡ true
+  pub size_bound : size ≤ file_most
+  pub standing_bound : standing ≤ journal_most
+  pub no_bad_line : none_bad (take size file) ≡ true
 
 -- the edit by which some bytes at a place go and others come
 abbrev pub swap : ℕ → List ℕ → List ℕ → Edit

@@ -22,7 +22,7 @@ use journal::{Next, Way};
 use wellformed::Checked;
 
 // What a call answers: the file's new length and the journal's two new numbers, or its refusal.
-#[derive(Drop)]
+#[derive(Clone, Copy)]
 pub enum Edited {
     Done {
         size: usize,
@@ -33,14 +33,14 @@ pub enum Edited {
 }
 
 // What an edit from the journal makes of a file: its new length, or a refusal.
-#[derive(Drop)]
+#[derive(Clone, Copy)]
 pub enum Replayed {
     Size(usize),
     Refused(Fault),
 }
 
 // A part of some bytes, the end exclusive.
-#[derive(Drop)]
+#[derive(Clone, Copy)]
 struct Part {
     from: usize,
     to: usize,
@@ -377,8 +377,8 @@ fn again(
     gone: Part,
     come: Part,
 ) -> Edited
-    requires size_in_bounds { (size ≤ length file.old) × (size ≤ file_most) }
-    requires from_le_to { (gone.from ≤ gone.to) × (gone.to ≤ length edits.now) × (come.from ≤ come.to) × (come.to ≤ length edits.now) }
+    requires size_fits { (size ≤ length file.old) × (size ≤ file_most) }
+    requires parts_fit { (gone.from ≤ gone.to) × (gone.to ≤ length edits.now) × (come.from ≤ come.to) × (come.to ≤ length edits.now) }
     ensures answer { calls.answered result ≡ then (step.numbers used standing) (calls.replayed_in (length file.old) (take size file.old) (step.swap place (part gone.from gone.to edits.now) (part come.from come.to edits.now))) }
     ensures file { file.new ≡ step.became file.old size (calls.replayed_in (length file.old) (take size file.old) (step.swap place (part gone.from gone.to edits.now) (part come.from come.to edits.now))) }
 {

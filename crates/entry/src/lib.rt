@@ -16,7 +16,7 @@ use rows::Found;
 use wellformed::Checked;
 
 // The two ends of a value in the file, the end exclusive, or the refusal.
-#[derive(Drop)]
+#[derive(Clone, Copy)]
 pub enum Ends {
     At { from: usize, to: usize },
     Refused(Fault),

@@ -28,7 +28,7 @@ use text::{Left, Written};
 use wellformed::Checked as FileChecked;
 
 // What was asked: how many items there are, or the refusal.
-#[derive(Drop)]
+#[derive(Clone, Copy)]
 pub enum Counted {
     Items(usize),
     Refused(Fault),

@@ -45,7 +45,7 @@ pub enum Fault {
 }
 
 // A refusal as the caller is told of it: its number and place in 01's table, and the byte in a bad line.
-#[derive(Drop)]
+#[derive(Clone, Copy)]
 pub struct Told {
     pub number: u32,
     pub place: usize,

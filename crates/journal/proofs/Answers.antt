@@ -33,7 +33,7 @@ edit-inside s at e h = no (cc (no-edit s at (rw (done s at h) (no-head [] (omega
 
 module _ {s : List ℕ} {standing last : ℕ} (p : Parted s standing last) where
   pub latest-nothing : standing ≡ 0 → refused NothingLeft ≡ latest s standing
-  latest-nothing z = rw p.reads (go (next_of p.journal.stand) p.latest-at)
+  latest-nothing z = rw p.reads (go (next_of p.journal.stand) p.latest_at)
     where
       go : (o : Option (Authored Edit)) → Latest s last standing o
           → refused NothingLeft ≡ then (ending_at standing) (some_or o NothingLeft)
@@ -41,7 +41,7 @@ module _ {s : List ℕ} {standing last : ℕ} (p : Parted s standing last) where
       go (some e) l = absurd (omega (arith, z, l.1, front-least e.author))
 
   pub latest-read : (standing ≡ 0 → ⊥) → (r : Next) → Reads s last r → (placed s r ≡ latest s standing) × Within (length s) r
-  latest-read n r q = rw p.reads (go (next_of p.journal.stand) p.latest-at r q)
+  latest-read n r q = rw p.reads (go (next_of p.journal.stand) p.latest_at r q)
     where
       go : (o : Option (Authored Edit)) → Latest s last standing o → (r : Next) → Reads s last r
           → (placed s r ≡ then (ending_at standing) (some_or o NothingLeft)) × Within (length s) r
@@ -55,16 +55,16 @@ module _ {s : List ℕ} {standing last : ℕ} (p : Parted s standing last) where
           let z : authored w ≡ e = cc in
           let k : end ≡ standing = sym (authored-length w) ∙ ap (λ (f : Authored Edit). last + edit_length f) z ∙ l.1 in
           let m : start ≡ standing - edit_length e = omega (arith, q.0, l.1) in
-          (ap given (λ i. record { start = m i; end = k i; edit = (z i).what }), (w.old-bytes, w.new-bytes, w.inside))
+          (ap given (λ i. record { start = m i; end = k i; edit = (z i).what }), (w.old_bytes, w.new_bytes, w.inside))
 
   pub waiting-read : (r : Next) → Reads s standing r → (placed s r ≡ waiting s standing) × Within (length s) r
-  waiting-read r q = rw p.reads (go (next_of p.journal.wait) p.next-at r q)
+  waiting-read r q = rw p.reads (go (next_of p.journal.wait) p.next_at r q)
     where
       go : (o : Option (Authored Edit)) → Follows s standing o → (r : Next) → Reads s standing r
           → (placed s r ≡ then (starting_at standing) (some_or o NothingLeft)) × Within (length s) r
       go none l next.Damaged q = absurd (omega arith)
       go none l next.Nothing q = (refl, tt)
-      go none l (next.Edit start place old new end) q = absurd (omega (arith, front-least q.1.author, q.1.head, q.1.old-bytes, q.1.new-bytes, q.1.inside))
+      go none l (next.Edit start place old new end) q = absurd (omega (arith, front-least q.1.author, q.1.head, q.1.old_bytes, q.1.new_bytes, q.1.inside))
       go (some e) l next.Damaged q = no (cc)
       go (some e) l next.Nothing q = absurd (edit-inside s standing l q)
       go (some e) l (next.Edit start place old new end) q =
@@ -72,4 +72,4 @@ module _ {s : List ℕ} {standing last : ℕ} (p : Parted s standing last) where
           let h = w.edit in
           let z : authored w ≡ e = cc in
           let k : end ≡ standing + edit_length e = sym (authored-length w) ∙ ap (λ (f : Authored Edit). standing + edit_length f) z in
-          (ap given (λ i. record { start = q.0 i; end = k i; edit = (z i).what }), (w.old-bytes, w.new-bytes, w.inside))
+          (ap given (λ i. record { start = q.0 i; end = k i; edit = (z i).what }), (w.old_bytes, w.new_bytes, w.inside))

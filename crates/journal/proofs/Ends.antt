@@ -122,7 +122,7 @@ pub record Goes (s : Lent) (k gone : ℕ) : Type 0 where
 
 module _ (s : Lent) (k : ℕ) where
   pub forgets-refused : {f : Fault} → forget s k ≡ refused f → Forgets s k (forgot.Refused f) s.journal
-  forgets-refused e = record { answer = sym e; journal-is = rw e }
+  forgets-refused e = record { answer = sym e; journal_is = rw e }
 
   pub forget-unopened : accepted (opened s) ≡ false → forget s k ≡ refused Damaged
   forget-unopened h = forget-shut s k (opened-refused s h)
@@ -145,7 +145,7 @@ module _ (s : Lent) (k : ℕ) where
         }
 
   pub forgets-done : {gone : ℕ} {r : Forgot} {journal : List ℕ} → Goes s k gone → left_in journal r ≡ given (without gone s) → Forgets s k r journal
-  forgets-done {gone} {r} {journal} g e = record { answer = e ∙ sym g.is; journal-is = go r e ∙ rw g.is }
+  forgets-done {gone} {r} {journal} g e = record { answer = e ∙ sym g.is; journal_is = go r e ∙ rw g.is }
     where
       go : (r : Forgot) → left_in journal r ≡ given (without gone s) → journal ≡ (without gone s).journal
       go (forgot.Done u n) h = ap (λ (t : Lent). t.journal) (given_is (lent journal u n) (without gone s) h)

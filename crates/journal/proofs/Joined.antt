@@ -54,11 +54,11 @@ record Split (rs : List Rec) (es fs : List (Authored Edit)) : Type 0 where
   back : List Rec
   is : rs ≡ front ++ back
   reads-front : read_each read_edit front ≡ some es
-  reads-back : read_each read_edit back ≡ some fs
+  reads_back : read_each read_edit back ≡ some fs
 
 read-split : (rs : List Rec) (es fs : List (Authored Edit)) → read_each read_edit rs ≡ some (es ++ fs) → Split rs es fs
 unfolding read_each
-read-split rs [] fs h = record { front = []; back = rs; is = refl; reads-front = refl; reads-back = h }
+read-split rs [] fs h = record { front = []; back = rs; is = refl; reads-front = refl; reads_back = h }
 read-split [] (e ∷ es) fs h = no (cc)
 read-split (r ∷ rs) (e ∷ es) fs h =
     let c = cons r rs (e ∷ (es ++ fs)) h in
@@ -66,7 +66,7 @@ read-split (r ∷ rs) (e ∷ es) fs h =
     let x : e ≡ c.edit = cc in
     let y : c.others ≡ es ++ fs = cc in
     let s = read-split rs es fs (c.reads-others ∙ ap some y) in
-    record { front = r ∷ s.front; back = s.back; is = ap (λ (qs : List Rec). r ∷ qs) s.is; reads-front = rw (c.reads, s.reads-front) (ap (λ (d : Authored Edit). some (d ∷ es)) (sym x)); reads-back = s.reads-back }
+    record { front = r ∷ s.front; back = s.back; is = ap (λ (qs : List Rec). r ∷ qs) s.is; reads-front = rw (c.reads, s.reads-front) (ap (λ (d : Authored Edit). some (d ∷ es)) (sym x)); reads_back = s.reads_back }
 
 -- they are as long as their edits say
 read-lengths : (rs : List Rec) (es : List (Authored Edit)) → read_each read_edit rs ≡ some es → list_length rs ≡ lengths es
@@ -105,7 +105,7 @@ edits-parted s es fs h =
     let a = of s (es ++ fs) h in
     let b = read-split a.records es fs a.reads in
     let p = cut-parted b.front b.back s (a.cuts ∙ ap some b.is) in
-    rw (← read-lengths b.front es b.reads-front, p.0, p.1) (b.reads-front, b.reads-back)
+    rw (← read-lengths b.front es b.reads-front, p.0, p.1) (b.reads-front, b.reads_back)
 
 -- they fill the bytes
 edits-length : (s : List ℕ) (es : List (Authored Edit)) → edits s ≡ some es → lengths es ≡ length s

@@ -118,5 +118,5 @@ module _ {s : List ℕ} {at kind end : ℕ} (r : Stands s at kind end) where
   reads-by author from e h next.Nothing w = absurd w
   reads-by author from e h (next.Edit start place old new end₁) (a, b, w, head, o, n) = (
     a,
-    record { author = author; edit = e ∙ ap (map (by author)) w; head = omega arith; old-bytes = o; new-bytes = n; inside = omega (arith, r.inside) },
+    record { author = author; edit = e ∙ ap (map (by author)) w; head = omega arith; old_bytes = o; new_bytes = n; inside = omega (arith, r.inside) },
   )

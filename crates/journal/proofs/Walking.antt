@@ -28,7 +28,7 @@ module _ {s : List ℕ} {at place old new end : ℕ} (r : HoldsEdit s at place o
   authored = by r.author (record { place = place; old = part old new s; new = part new end s })
 
   pub authored-length : at + edit_length authored ≡ end
-  authored-length = omega (arith, r.head, length_part old new s (omega (arith, r.new-bytes, r.inside)), length_part new end s r.inside, r.old-bytes, r.new-bytes)
+  authored-length = omega (arith, r.head, length_part old new s (omega (arith, r.new_bytes, r.inside)), length_part new end s r.inside, r.old_bytes, r.new_bytes)
 
   -- it is not empty
   pub further : at < end
@@ -121,6 +121,6 @@ module _ {s : List ℕ} {standing at last : ℕ} (w : Walking s standing at last
           record {
             journal = record { stand = w.stand; wait = es };
             reads = l ∙ parted-here w.stand es;
-            latest-at = rw e at w.top;
-            next-at = edits-first s standing es q;
+            latest_at = rw e at w.top;
+            next_at = edits-first s standing es q;
           }

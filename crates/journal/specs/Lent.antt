@@ -77,4 +77,4 @@ left_in journal (forgot.Refused f) = refused f
 -- a call that answers so and leaves these bytes in the buffer
 pub record Forgets (s : Lent) (k : ℕ) (r : Forgot) (journal : List ℕ) : Type 0 where
   pub answer : left_in journal r ≡ forget s k
-  pub journal-is : journal ≡ (at_exit s (forget s k)).journal
+  pub journal_is : journal ≡ (at_exit s (forget s k)).journal

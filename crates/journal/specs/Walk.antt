@@ -89,8 +89,8 @@ pub record HoldsEdit (s : List ℕ) (at place old new end : ℕ) : Type 0 where
   pub author : Author
   pub edit : edit_at s at ≡ some (by author (record { place = place; old = part old new s; new = part new end s }))
   pub head : old ≡ at + front_length author
-  pub old-bytes : old ≤ new
-  pub new-bytes : new ≤ end
+  pub old_bytes : old ≤ new
+  pub new_bytes : new ≤ end
   pub inside : end ≤ length s
 
 -- what is read at a place: an edit, none though there are bytes, or the end
@@ -119,8 +119,8 @@ Follows s at (some e) = edit_at s at ≡ some e
 pub record Parted (s : List ℕ) (standing last : ℕ) : Type 0 where
   pub journal : Journal
   pub reads : read_journal s standing ≡ some journal
-  pub latest-at : Latest s last standing (next_of journal.stand)
-  pub next-at : Follows s standing (next_of journal.wait)
+  pub latest_at : Latest s last standing (next_of journal.stand)
+  pub next_at : Follows s standing (next_of journal.wait)
 
 -- what a walk over the records finds
 abbrev pub Walks : List ℕ → ℕ → Walked → Type 0

@@ -23,7 +23,7 @@ pub enum Way {
 }
 
 // An edit from the journal: where its record starts, its place, where its old bytes start, where its new bytes start and where its record ends.
-#[derive(Drop)]
+#[derive(Clone, Copy)]
 pub enum Next {
     Damaged,
     Nothing,
@@ -37,28 +37,28 @@ pub enum Next {
 }
 
 // Where the latest record that stands begins, in a sound journal; 0 where none stands.
-#[derive(Drop)]
+#[derive(Clone, Copy)]
 enum Walked {
     Damaged,
     Sound { last: usize },
 }
 
 // Who made an edit: a person's number, 0 where nobody is named, or a refusal.
-#[derive(Drop)]
+#[derive(Clone, Copy)]
 pub enum Named {
     Person(u16),
     Refused(Fault),
 }
 
 // Where the oldest records end, or that fewer stand.
-#[derive(Drop)]
+#[derive(Clone, Copy)]
 enum Oldest {
     End(usize),
     Fewer,
 }
 
 // The two numbers after forgetting, or a refusal.
-#[derive(Drop)]
+#[derive(Clone, Copy)]
 pub enum Forgot {
     Done { used: usize, standing: usize },
     Refused(Fault),

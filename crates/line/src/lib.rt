@@ -30,7 +30,7 @@ pub enum Line {
 }
 
 // A key with or without a postfix: where each ends, or the byte that is none of it.
-#[derive(Drop)]
+#[derive(Clone, Copy)]
 pub enum Named {
     Name { key: usize, name: usize },
     NoName(usize),
@@ -46,7 +46,7 @@ pub struct Parts {
 }
 
 // A locale at the front of some bytes: where it ends, or the byte that is missing.
-#[derive(Drop)]
+#[derive(Clone, Copy)]
 pub enum Locale {
     End(usize),
     Unfinished(usize),

@@ -12,21 +12,21 @@ ghost use Rattle.record.specs.Walk.{front_at, count_of, nth_of};
 pub const HEAD: usize = 6;
 
 // What stands at a place: a whole record, or none.
-#[derive(Drop)]
+#[derive(Clone, Copy)]
 pub enum Front {
     Record { kind: u16, end: usize },
     Damaged,
 }
 
 // How many records fill a list.
-#[derive(Drop)]
+#[derive(Clone, Copy)]
 pub enum Filled {
     Records(usize),
     Damaged,
 }
 
 // Where a record's body stands.
-#[derive(Drop)]
+#[derive(Clone, Copy)]
 pub enum Bounds {
     Body { from: usize, to: usize },
     Missing,

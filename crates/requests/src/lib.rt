@@ -9,14 +9,14 @@ ghost use Rattle.requests.specs.Places.{Ends, Reads};
 use record::Front;
 
 // Where a field ends, or that it is not whole.
-#[derive(Drop)]
+#[derive(Clone, Copy)]
 enum Field {
     End(usize),
     Short,
 }
 
 // The fields in a record's body, each behind four bytes of its length. The last one ends with the body.
-#[derive(Drop)]
+#[derive(Clone, Copy)]
 pub enum Fields {
     // Group and key; the end of the group.
     Two { group: usize },

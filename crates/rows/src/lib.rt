@@ -12,7 +12,7 @@ ghost use Rattle.rows.specs.Find.{no_lf, line_length, none_bad, found_of, named_
 use line::{Line, Named};
 
 // A row of a file: its number, where it starts, where its line ends, where its value starts (an entry's; else the row's start).
-#[derive(Drop)]
+#[derive(Clone, Copy)]
 pub enum Found {
     Row {
         line: usize,

@@ -21,35 +21,35 @@ pub enum Escapes {
 }
 
 // The first byte of a text, and how many raw bytes it takes.
-#[derive(Drop)]
+#[derive(Clone, Copy)]
 pub enum Decoded {
     Byte { byte: u8, width: usize },
     Wrong,
 }
 
 // How long a text is, or where its escape is wrong.
-#[derive(Drop)]
+#[derive(Clone, Copy)]
 pub enum Measure {
     Length(usize),
     Wrong(usize),
 }
 
 // How much room is left in an output.
-#[derive(Drop)]
+#[derive(Clone, Copy)]
 pub enum Left {
     Bytes(usize),
     Short,
 }
 
 // How much room a list leaves, or where an escape in it is wrong.
-#[derive(Drop)]
+#[derive(Clone, Copy)]
 pub enum Room {
     Left(Left),
     Wrong(usize),
 }
 
 // What a call with an output answers: how many bytes it wrote, or its refusal.
-#[derive(Drop)]
+#[derive(Clone, Copy)]
 pub enum Written {
     Bytes(usize),
     Refused(Fault),

@@ -20,14 +20,14 @@ use rows::Found;
 const FILE_SHORT: usize = 4096;
 
 // What the check answers.
-#[derive(Drop)]
+#[derive(Clone, Copy)]
 pub enum Checked {
     Sound,
     Refused(Fault),
 }
 
 // What the first pass finds: a fault of 2 to 5 or no header, or none; then whether the rule of plain keys is settled too.
-#[derive(Drop)]
+#[derive(Clone, Copy)]
 enum Scanned {
     Settled,
     Doubtful,

@@ -2,4 +2,4 @@
 use Rattle.abi.proofs.tell_checked.Goals as goal
 
 pub returns-in-Refused : goal.returns-in-Refused
-returns-in-Refused c = rw c.in-Refused.is (record { code_is = c.refuse.ensures.0; place_is = c.refuse.ensures.1; byte-is = c.refuse.ensures.2 })
+returns-in-Refused c = rw c.in-Refused.is (record { code_is = c.refuse.ensures.0; place_is = c.refuse.ensures.1; byte_is = c.refuse.ensures.2 })

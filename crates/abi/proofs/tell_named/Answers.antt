@@ -3,4 +3,4 @@ use mathlib.Core.Path.{refl}
 use Rattle.abi.proofs.tell_named.Goals as goal
 
 pub returns-in-Refused : goal.returns-in-Refused
-returns-in-Refused c = rw c.in-Refused.is (record { returned = record { code_is = c.refuse.ensures.0; place_is = c.refuse.ensures.1; byte-is = c.refuse.ensures.2 }; number_is = refl })
+returns-in-Refused c = rw c.in-Refused.is (record { returned = record { code_is = c.refuse.ensures.0; place_is = c.refuse.ensures.1; byte_is = c.refuse.ensures.2 }; number_is = refl })

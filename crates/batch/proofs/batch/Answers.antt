@@ -18,7 +18,7 @@ opened : (c : In-Sound) → given tt ≡ passed (calls.opened (lent c.args.file.
 opened c = sym (ap check.answered c.in-Sound.is) ∙ c.check_lent.ensures
 
 pub run-requires : goal.run-requires
-run-requires c = record { tt_value = opened (goal.at.run-requires c).In-Sound; list_value = sym c.sound.ensures ∙ c.if-sound.true }
+run-requires c = record { opens = opened (goal.at.run-requires c).In-Sound; list_reads = sym c.sound.ensures ∙ c.if-sound.true }
 
 pub returns-in-Refused : goal.returns-in-Refused
 returns-in-Refused c =

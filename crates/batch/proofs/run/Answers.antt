@@ -11,7 +11,7 @@ use Rattle.batch.proofs.run.Goals as goal
 use Rattle.batch.proofs.run.Goals.{In-Record}
 
 pub loop-at-init : goal.loop-at-init
-loop-at-init c = (run-begin (lent c.args.file.now c.args.size c.args.journal.now c.args.used c.args.standing) (Person c.args.person) c.args.list.now c.requires.tt_value c.requires.list_value, refl, refl)
+loop-at-init c = (run-begin (lent c.args.file.now c.args.size c.args.journal.now c.args.used c.args.standing) (Person c.args.person) c.args.list.now c.requires.opens c.requires.list_reads, refl, refl)
 
 -- the record that stands at the place
 stands : (c : In-Record) → Stands c.args.list.now c.loop-at.at c.in-Record.kind c.in-Record.end

@@ -34,7 +34,7 @@ returns-in-Line c =
     rw (← line-edit (take a.size a.file.now) a.key.now a.text.now c.in-Line.is (line-inside (goal.at.returns-in-Line c).After-make-arg-in-Line-2-1).0) c.make-in-Line.ensures
 
 pub returns-in-Refused : goal.returns-in-Refused
-returns-in-Refused c = rw c.in-Refused.is (record { answer = refl; file-is = refl; journal-is = refl })
+returns-in-Refused c = rw c.in-Refused.is (record { answer = refl; file_is = refl; journal_is = refl })
 
 pub overflow_sub-to : goal.overflow_sub-to
 overflow_sub-to c = (value-inside (goal.at.overflow_sub-to c).After-make-arg-in-Value-1).0

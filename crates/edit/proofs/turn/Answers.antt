@@ -14,13 +14,13 @@ pub again-requires : goal.again-requires
 again-requires c =
     let i = ready-fits _ (rw c.in-Sound.is at c.check_file.ensures) in
     let w = rw c.in-Edit.is at c.next_on.ensures.1 in
-    record { size_in_bounds = (i.ready.size_fits, i.ready.size-bound); from_le_to = (omega arith, omega arith, omega arith, omega arith) }
+    record { size_fits = (i.ready.size_fits, i.ready.size_bound); parts_fit = (omega arith, omega arith, omega arith, omega arith) }
 
 pub again-requires-in-Redo : goal.again-requires-in-Redo
 again-requires-in-Redo c =
     let i = ready-fits _ (rw c.in-Sound.is at c.check_file.ensures) in
     let w = rw c.in-Edit.is at c.next_on.ensures.1 in
-    record { size_in_bounds = (i.ready.size_fits, i.ready.size-bound); from_le_to = (omega arith, omega arith, omega arith, omega arith) }
+    record { size_fits = (i.ready.size_fits, i.ready.size_bound); parts_fit = (omega arith, omega arith, omega arith, omega arith) }
 
 pub returns-in-Refused : goal.returns-in-Refused
 returns-in-Refused c = made-unready (way-steps c.args.way _) (rw c.in-Refused.is at c.check_file.ensures)

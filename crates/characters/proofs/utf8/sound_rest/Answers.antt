@@ -26,8 +26,8 @@ returns-then-sound_16-2 c =
     let n = length a.s.now in
     let q : n - 19 + 16 ≡ n - 3 = omega arith in
     λ e. record {
-      all-follow = followed-join a.s.now a.at l.k (n - 19) (n - 3) l.invariant.2 (rw q at (c.sound_16-2.ensures c.if-sound_16-2.true)) (omega arith);
-      none-due = sym c.is_due.ensures ∙ not-true c.is_due.result e;
+      all_follow = followed-join a.s.now a.at l.k (n - 19) (n - 3) l.invariant.2 (rw q at (c.sound_16-2.ensures c.if-sound_16-2.true)) (omega arith);
+      none_due = sym c.is_due.ensures ∙ not-true c.is_due.result e;
     }
 
 pub returns : goal.returns
