@@ -83,11 +83,12 @@ def main():
                     dashed.add(m.group(1))
     names = {n: snake(n) for n in declared if re.match(r"[a-z]", n) and re.search(r"[A-Z]", n)}
     names.update({n: snake(n).replace("-", "_") for n in dashed})
-    fallen = [n for n, c in collections.Counter(names.values()).items() if c > 1]
+    fallen = []
     for f in antt:
         if not f.endswith("/Proof.antt"):
             there = set(WORD.findall(re.sub(r"Rattle(?:\.[\w]+)+", "", texts[f])))
-            fallen += [(n, f) for n in there if n in names and names[n] in there]
+            respelled = collections.Counter(names.get(n, n) for n in there)
+            fallen += [(n, f) for n, c in respelled.items() if c > 1]
     if fallen:
         sys.exit(f"respell: names fall together: {fallen}")
     for f, text in texts.items():
