@@ -1,17 +1,17 @@
 -- The calls that read and write text, and those to which the journal alone is lent, are never refused with 2, so the byte of their refusals is 0.
 -- Assumes nothing.
+use Rattle.std.specs.Prelude.{Option, Some, None, Ok, Err, slice_get}
 use mathlib.Core.Path.{◌≡◌, refl}
 use Prim.Native.Nat.{ℕ, ◌+◌}
 use Prim.Native.Char.{code}
 use mathlib.Core.Bool.{Bool, true, false}
-use mathlib.Core.Option.{Option, none, some}
 use mathlib.Core.List.{List, [], ◌∷◌}
-use lib.ListN.{length, get_elem?}
+use lib.ListN.{length}
 use lib.Dec.{eqb, leb}
 use Rattle.base.specs.Choice.{pick, maybe}
 use Rattle.base.specs.Lists.{all}
 use Rattle.fault.specs.declared.Fault.TheVariants.{BadEscape, UnfitText, NoRoom, NothingLeft, Damaged}
-use Rattle.fault.specs.Answer.{Answer, given, refused, some_or, then}
+use Rattle.fault.specs.Answer.{Answer, some_or, then}
 use Rattle.fault.proofs.Refusals.{IfRefused, if-then, if-bind, if-need, if-or, Not2, byte-zero}
 use Rattle.record.specs.Record.{list_of}
 use Rattle.text.specs.Escape.{escape, text_from, read_text, raw_text, fit_text, write_text}
@@ -38,9 +38,9 @@ from-not2 k (b ∷ bs) false at = go (eqb b (code "\\")) (from-not2 k bs true at
     go false pair single = if-then Not2 (λ s. b ∷ s) (text_from k bs false (at + 1)) single
 from-not2 k (b ∷ bs) true at = go (escape k b) (from-not2 k bs false (at + 2))
   where
-    go : (o : Option ℕ) → IfRefused Not2 (text_from k bs false (at + 2)) → IfRefused Not2 (maybe o (refused (BadEscape at)) (λ x. then (λ s. x ∷ s) (text_from k bs false (at + 2))))
-    go none rest = refl
-    go (some x) rest = if-then Not2 (λ s. x ∷ s) (text_from k bs false (at + 2)) rest
+    go : (o : Option ℕ) → IfRefused Not2 (text_from k bs false (at + 2)) → IfRefused Not2 (maybe o (Err (BadEscape at)) (λ x. then (λ s. x ∷ s) (text_from k bs false (at + 2))))
+    go None rest = refl
+    go (Some x) rest = if-then Not2 (λ s. x ∷ s) (text_from k bs false (at + 2)) rest
 
 pub read-not2 : (raw : List ℕ) → IfRefused Not2 (read_text raw)
 unfolding read_text
@@ -48,7 +48,7 @@ read-not2 raw = from-not2 escapes.Text raw false 0
 
 write-not2 : (text : List ℕ) → IfRefused Not2 (write_text text)
 unfolding write_text
-write-not2 text = if-need Not2 (fit_text text) UnfitText (λ _. given (raw_text text)) refl (λ _. tt)
+write-not2 text = if-need Not2 (fit_text text) UnfitText (λ _. Ok (raw_text text)) refl (λ _. tt)
 
 pub each-not2 : (es : List (List ℕ)) (at : ℕ) → IfRefused Not2 (each_read es at)
 unfolding each_read
@@ -59,7 +59,7 @@ each-not2 (e ∷ es) at =
 
 list-not2 : (raw : List ℕ) → IfRefused Not2 (read_elements raw)
 unfolding read_elements elements_of
-list-not2 raw = if-bind Not2 (elements_of raw) _ (each-not2 (raw_elements raw false) 0) (λ es. if-need Not2 (all fits_record es) NoRoom (λ _. given (list_of 2 es)) refl (λ _. tt))
+list-not2 raw = if-bind Not2 (elements_of raw) _ (each-not2 (raw_elements raw false) 0) (λ es. if-need Not2 (all fits_record es) NoRoom (λ _. Ok (list_of 2 es)) refl (λ _. tt))
 
 opened-not2 : (s : Lent) → IfRefused Not2 (opened s)
 unfolding opened
@@ -69,7 +69,7 @@ person-not2 : (s : Lent) (n : ℕ) → IfRefused Not2 (person s n)
 unfolding person
 person-not2 s n =
     if-bind Not2 (opened s) (λ j. person_in (in_order j) n) (opened-not2 s)
-    (λ j. if-then Not2 (λ (e : Authored Edit). person_of e.author) (some_or (get_elem? (in_order j) n) NothingLeft) (if-or Not2 (get_elem? (in_order j) n) NothingLeft refl))
+    (λ j. if-then Not2 (λ (e : Authored Edit). person_of e.author) (some_or (slice_get (in_order j) n) NothingLeft) (if-or Not2 (slice_get (in_order j) n) NothingLeft refl))
 
 pub forget-not2 : (s : Lent) (k : ℕ) → IfRefused Not2 (forget s k)
 unfolding forget
@@ -78,12 +78,12 @@ forget-not2 s k = if-bind Not2 (opened s) _ (opened-not2 s) (λ j. if-need Not2 
 -- ---- their bytes
 
 told-zero : (a : Answer (List ℕ)) (out : List ℕ) → IfRefused Not2 a → byte_in (written_length a out) ≡ 0
-told-zero (given s) out n = go (leb (length s) (length out))
+told-zero (Ok s) out n = go (leb (length s) (length out))
   where
-    go : (t : Bool) → byte_in (pick t (given (length s)) (refused NoRoom)) ≡ 0
+    go : (t : Bool) → byte_in (pick t (Ok (length s)) (Err NoRoom)) ≡ 0
     go true = refl
     go false = refl
-told-zero (refused f) out n = byte-zero f n
+told-zero (Err f) out n = byte-zero f n
 
 pub read-zero : (raw out : List ℕ) → byte_in (written_length (read_text raw) out) ≡ 0
 read-zero raw out = told-zero (read_text raw) out (read-not2 raw)
@@ -95,8 +95,8 @@ pub list-zero : (raw out : List ℕ) → byte_in (written_length (read_elements 
 list-zero raw out = told-zero (read_elements raw) out (list-not2 raw)
 
 answer-zero : {A : Type 0} (a : Answer A) → IfRefused Not2 a → byte_in a ≡ 0
-answer-zero (given x) h = refl
-answer-zero (refused f) h = byte-zero f h
+answer-zero (Ok x) h = refl
+answer-zero (Err f) h = byte-zero f h
 
 pub person-zero : (s : Lent) (n : ℕ) → byte_in (person s n) ≡ 0
 person-zero s n = answer-zero (person s n) (person-not2 s n)

@@ -1,10 +1,11 @@
 -- What a C program sees of a call, from what the call answers and leaves. Assumes nothing.
+use Rattle.std.specs.Prelude.{Ok, Err}
 use mathlib.Core.Path.{◌≡◌, refl, sym, ap, ◌∙◌}
 use Prim.Native.Nat.{ℕ}
 use mathlib.Core.List.{List}
 use Rattle.fault.specs.declared.Fault.{Fault}
 use Rattle.fault.specs.Table.{number_of, place_of}
-use Rattle.fault.specs.Answer.{Answer, given, refused, then, at_exit}
+use Rattle.fault.specs.Answer.{Answer, then, at_exit}
 use Rattle.entry.specs.Lookup.{Extent}
 use Rattle.journal.specs.Lent.{Lent, lent, forget, Forgets}
 use Rattle.journal.specs.declared.Forgot.TheVariants as forgot
@@ -38,28 +39,28 @@ same_ends e t = rw e at t
 
 -- an answer's numbers tell the same code, place and byte
 code-told : (a : Answer State) → code_of (then numbers_of a) ≡ code_of a
-code-told (given s) = refl
-code-told (refused f) = refl
+code-told (Ok s) = refl
+code-told (Err f) = refl
 
 place-told : (a : Answer State) → place_in (then numbers_of a) ≡ place_in a
-place-told (given s) = refl
-place-told (refused f) = refl
+place-told (Ok s) = refl
+place-told (Err f) = refl
 
 byte-told : (a : Answer State) → byte_in (then numbers_of a) ≡ byte_in a
-byte-told (given s) = refl
-byte-told (refused f) = refl
+byte-told (Ok s) = refl
+byte-told (Err f) = refl
 
 size-told : (s : State) (a : Answer State) → written_in (λ n. n.size) (then numbers_of a) s.size ≡ (at_exit s a).size
-size-told s (given t) = refl
-size-told s (refused f) = refl
+size-told s (Ok t) = refl
+size-told s (Err f) = refl
 
 used-told : (s : State) (a : Answer State) → written_in (λ n. n.used) (then numbers_of a) s.used ≡ (at_exit s a).used
-used-told s (given t) = refl
-used-told s (refused f) = refl
+used-told s (Ok t) = refl
+used-told s (Err f) = refl
 
 standing-told : (s : State) (a : Answer State) → written_in (λ n. n.standing) (then numbers_of a) s.standing ≡ (at_exit s a).standing
-standing-told s (given t) = refl
-standing-told s (refused f) = refl
+standing-told s (Ok t) = refl
+standing-told s (Err f) = refl
 
 pub called : {s : State} {a : Answer State} {e : Edited} {code place byte size used standing : ℕ} {file journal : List ℕ} → Made s a e file journal
     → ReturnedNumbers (answered e) code place byte s.size size s.used used s.standing standing → Called s a code place byte size used standing file journal

@@ -1,8 +1,8 @@
 -- How an answer is told to a C program: a refusal's number, or 0; its place; its byte; and a number that is written only where it is given.
 -- Assumes nothing.
-use Rattle.std.specs.Prelude.{◌≡◌, ℕ, List}
+use Rattle.std.specs.Prelude.{◌≡◌, ℕ, List, Ok, Err}
 use Rattle.fault.specs.Table.{number_of, place_of, byte_of}
-use Rattle.fault.specs.Answer.{Answer, given, refused, unless, at_exit}
+use Rattle.fault.specs.Answer.{Answer, unless, at_exit}
 use Rattle.entry.specs.Lookup.{Extent}
 use Rattle.journal.specs.Lent.{Lent}
 use Rattle.edit.specs.Calls.{State, Numbers, lent}
@@ -14,23 +14,23 @@ abi = 5
 
 -- the refusal's number, 0 if accepted
 abbrev pub code_of : {A : Type 0} → Answer A → ℕ
-code_of (given a) = 0
-code_of (refused f) = number_of f
+code_of (Ok a) = 0
+code_of (Err f) = number_of f
 
 -- the refusal's place, 0 if accepted
 abbrev pub place_in : {A : Type 0} → Answer A → ℕ
-place_in (given a) = 0
-place_in (refused f) = place_of f
+place_in (Ok a) = 0
+place_in (Err f) = place_of f
 
 -- the refusal's byte, 0 if accepted
 abbrev pub byte_in : {A : Type 0} → Answer A → ℕ
-byte_in (given a) = 0
-byte_in (refused f) = byte_of f
+byte_in (Ok a) = 0
+byte_in (Err f) = byte_of f
 
 -- a number of the answer; as it was where refused
 abbrev pub written_in : {A : Type 0} → (A → ℕ) → Answer A → ℕ → ℕ
-written_in h (given a) old = h a
-written_in h (refused f) old = old
+written_in h (Ok a) old = h a
+written_in h (Err f) old = old
 
 -- what a C program sees of a call: the code that it returned, the place and the byte
 pub record Returned {A : Type 0} (a : Answer A) (code place byte : ℕ) : Type 0 where

@@ -1,9 +1,9 @@
 -- The group of an action: its header in the file, and what its name tells. Assumes nothing.
+use Rattle.std.specs.Prelude.{Some, None}
 use mathlib.Core.Path.{◌≡◌, refl, sym, ap, ◌∙◌}
 use Prim.Native.Nat.{ℕ, ◌+◌, ◌-◌, ◌≤◌, ◌<◌}
 use native.Mathlib.Omega.{arith}
 use mathlib.Core.Bool.{Bool, true, false, ◌&&◌, and-false, false≢true}
-use mathlib.Core.Option.{none, some}
 use mathlib.Core.List.{List, []}
 use lib.ListN.{length, length-append}
 use lib.Dec.{eqb}
@@ -28,7 +28,7 @@ use Rattle.actions.specs.Step.{group_if}
 
 -- ---- a header that was found
 
-module _ (file g : List ℕ) {r : Row} (i : find_row (read_rows file) (Group g) ≡ some r) where
+module _ (file g : List ℕ) {r : Row} (i : find_row (read_rows file) (Group g) ≡ Some r) where
   abbrev line : List ℕ
   line = line_of r.bytes
 
@@ -76,7 +76,7 @@ pub record Titled (file g : List ℕ) (p e : ℕ) : Type 0 where
   pub is : part (p + 1) (e - 1) file ≡ g
   pub there-is : has (read_rows file) (Group g) ≡ true
 
-row-titled : (file g : List ℕ) (r : Row) (i : find_row (read_rows file) (Group g) ≡ some r) {n p e v : ℕ} → Told r n p e v → Titled file g p e
+row-titled : (file g : List ℕ) (r : Row) (i : find_row (read_rows file) (Group g) ≡ Some r) {n p e v : ℕ} → Told r n p e v → Titled file g p e
 row-titled file g r i b =
     record {
       brackets = omega (arith, (headed file g i).1, b.start_is, b.end_is);
@@ -110,11 +110,11 @@ module _ (rs : List Row) (id : List ℕ) where
   unfolding is_action
   other-form f = rw f
 
-  pub no_header : find_row rs (Group group) ≡ none → is_action rs id ≡ false
+  pub no_header : find_row rs (Group group) ≡ None → is_action rs id ≡ false
   unfolding is_action
   no_header e = rw (e, and-false (plain_form id))
 
-  pub no_name : find_row rs (Key group (ascii "Name")) ≡ none → is_action rs id ≡ false
+  pub no_name : find_row rs (Key group (ascii "Name")) ≡ None → is_action rs id ≡ false
   unfolding is_action
   no_name e = rw e (and-false (plain_form id && has rs (Group group)))
 

@@ -1,10 +1,10 @@
 -- The records of the listed actions: what they take, and how they are written one after another. Assumes nothing.
+use Rattle.std.specs.Prelude.{Option, Some, None, Ok, Err}
 use mathlib.Core.Path.{◌≡◌, refl, sym, ap, ◌∙◌}
 use Prim.Native.Nat.{ℕ, ◌+◌, ◌-◌, ◌≤◌, ◌<◌}
 use native.Mathlib.Nat.{add-zero}
 use native.Mathlib.Omega.{arith}
 use mathlib.Core.Bool.{true, false, not, false≢true}
-use mathlib.Core.Option.{Option, none, some}
 use mathlib.Core.List.{List, [], ◌∷◌, ◌++◌, append-nil}
 use lib.ListN.{length, take, drop, length-append, take-append-drop}
 use Rattle.base.specs.Choice.{maybe}
@@ -16,7 +16,7 @@ use Rattle.base.proofs.Over.{length_over, over-then}
 use Rattle.base.proofs.Tests.{no, and_both, some-there}
 use Rattle.fault.specs.declared.Fault.{Fault}
 use Rattle.fault.specs.declared.Fault.TheVariants.{Missing, NoRoom}
-use Rattle.fault.specs.Answer.{Answer, given, refused, ◌>>=◌, some_or, then, accepted}
+use Rattle.fault.specs.Answer.{Answer, ◌>>=◌, some_or, then, accepted}
 use Rattle.record.specs.Record.{Rec, record_length, record_bytes, list_of}
 use Rattle.record.proofs.Sizes.{length-record, list-of-cons, list-of-append}
 use Rattle.text.specs.Escape.{read_text}
@@ -41,32 +41,32 @@ use Rattle.actions.proofs.Listing.{listed_next, action-labelled}
 -- ---- one answer and then another
 
 abbrev joint : Answer (List (List ℕ)) → Answer (List (List ℕ)) → Answer (List (List ℕ))
-joint a b = a >>= λ xs. (b >>= λ ys. given (xs ++ ys))
+joint a b = a >>= λ xs. (b >>= λ ys. Ok (xs ++ ys))
 
-joint-none : (b : Answer (List (List ℕ))) → b ≡ joint (given []) b
-joint-none (given ys) = refl
-joint-none (refused f) = refl
+joint-none : (b : Answer (List (List ℕ))) → b ≡ joint (Ok []) b
+joint-none (Ok ys) = refl
+joint-none (Err f) = refl
 
 joint-given : (a b : Answer (List (List ℕ))) → accepted (joint a b) ≡ true
     → (accepted a ≡ true) × (accepted b ≡ true) × (elements_in (joint a b) ≡ elements_in a ++ elements_in b)
-joint-given (refused f) b e = absurd (false≢true e)
-joint-given (given xs) (refused f) e = absurd (false≢true e)
-joint-given (given xs) (given ys) e = (refl, refl, refl)
+joint-given (Err f) b e = absurd (false≢true e)
+joint-given (Ok xs) (Err f) e = absurd (false≢true e)
+joint-given (Ok xs) (Ok ys) e = (refl, refl, refl)
 
 -- what was spent for the first is spent
-joint-spent : (room : Left) (a b : Answer (List (List ℕ))) {rest : Left} → given rest ≡ then (spend_list room) a → then (spend_list room) (joint a b) ≡ then (spend_list rest) b
-joint-spent room (refused f) b e = no (cc)
-joint-spent room (given xs) (refused f) e = refl
-joint-spent room (given xs) (given ys) {rest} e =
+joint-spent : (room : Left) (a b : Answer (List (List ℕ))) {rest : Left} → Ok rest ≡ then (spend_list room) a → then (spend_list room) (joint a b) ≡ then (spend_list rest) b
+joint-spent room (Err f) b e = no (cc)
+joint-spent room (Ok xs) (Err f) e = refl
+joint-spent room (Ok xs) (Ok ys) {rest} e =
     let z : rest ≡ spend_list room xs = cc in
-    rw (z, list-of-append 2 xs ys, length-append (list_of 2 xs) (list_of 2 ys)) (ap given (sym (spend-add room (length (list_of 2 xs)) (length (list_of 2 ys)))))
+    rw (z, list-of-append 2 xs ys, length-append (list_of 2 xs) (list_of 2 ys)) (ap Ok (sym (spend-add room (length (list_of 2 xs)) (length (list_of 2 ys)))))
 
-joint-wrong : (room : Left) (a b : Answer (List (List ℕ))) {f : Fault} → refused f ≡ then (spend_list room) a → then (spend_list room) (joint a b) ≡ refused f
-joint-wrong room (given xs) b e = no (cc)
-joint-wrong room (refused g) b e = sym e
+joint-wrong : (room : Left) (a b : Answer (List (List ℕ))) {f : Fault} → Err f ≡ then (spend_list room) a → then (spend_list room) (joint a b) ≡ Err f
+joint-wrong room (Ok xs) b e = no (cc)
+joint-wrong room (Err g) b e = sym e
 
 module _ (rs : List Row) (locale : List ℕ) where
-  labelled-none : labelled rs locale [] ≡ given []
+  labelled-none : labelled rs locale [] ≡ Ok []
   unfolding labelled
   labelled-none = refl
 
@@ -76,11 +76,11 @@ module _ (rs : List Row) (locale : List ℕ) where
   labelled-append (x ∷ xs) ys = rw (labelled-append xs ys) (go (name_in rs (action_group x) locale) (labelled rs locale xs) (labelled rs locale ys))
     where
       go : (n : Answer (List ℕ)) (a b : Answer (List (List ℕ)))
-          → (n >>= λ l. (joint a b >>= λ later. given (x ∷ l ∷ later))) ≡ joint (n >>= λ l. (a >>= λ later. given (x ∷ l ∷ later))) b
-      go (refused f) a b = refl
-      go (given l) (refused f) b = refl
-      go (given l) (given xs) (refused f) = refl
-      go (given l) (given xs) (given ys) = refl
+          → (n >>= λ l. (joint a b >>= λ later. Ok (x ∷ l ∷ later))) ≡ joint (n >>= λ l. (a >>= λ later. Ok (x ∷ l ∷ later))) b
+      go (Err f) a b = refl
+      go (Ok l) (Err f) b = refl
+      go (Ok l) (Ok xs) (Err f) = refl
+      go (Ok l) (Ok xs) (Ok ys) = refl
 
   -- ---- one action
 
@@ -94,8 +94,8 @@ module _ (rs : List Row) (locale : List ℕ) where
 
   one-given : (id : List ℕ) (a : Answer (List ℕ)) → name_in rs (action_group id) locale ≡ a → labelled rs locale (id ∷ []) ≡ then (λ t. id ∷ t ∷ []) a
   unfolding labelled
-  one-given id (given t) e = rw e
-  one-given id (refused f) e = rw e
+  one-given id (Ok t) e = rw e
+  one-given id (Err f) e = rw e
 
   -- its identifier and its label's text
   pub one-labelled : (id : List ℕ) → is_action rs id ≡ true → labelled rs locale (id ∷ []) ≡ then (λ t. id ∷ t ∷ []) (read_text (label_value (action_group id)))
@@ -107,10 +107,10 @@ module _ (rs : List Row) (locale : List ℕ) where
       let n : 12 + length id + length t ≡ length (list_of 2 (id ∷ t ∷ [])) = omega (arith, length-cons 2 id (t ∷ []), length-cons 2 t [], ap length (list-none 2)) in
       spend-add (spend room 12) (length id) (length t) ∙ spend-add room 12 (length id + length t) ∙ ap (spend room) (omega (arith, n))
 
-  pair_left : (room : Left) (id : List ℕ) (a : Answer (List ℕ)) {n : ℕ} → given n ≡ then length a
-      → given (spend (spend (spend room 12) (length id)) n) ≡ then (spend_list room) (then (λ t. id ∷ t ∷ []) a)
-  pair_left room id (refused f) w = no (cc)
-  pair_left room id (given t) {n} w = let z : n ≡ length t = cc in rw z (ap given (spend-pair room id t))
+  pair_left : (room : Left) (id : List ℕ) (a : Answer (List ℕ)) {n : ℕ} → Ok n ≡ then length a
+      → Ok (spend (spend (spend room 12) (length id)) n) ≡ then (spend_list room) (then (λ t. id ∷ t ∷ []) a)
+  pair_left room id (Err f) w = no (cc)
+  pair_left room id (Ok t) {n} w = let z : n ≡ length t = cc in rw z (ap Ok (spend-pair room id t))
 
   -- ---- the element at a place, if it is listed
 
@@ -118,8 +118,8 @@ module _ (rs : List Row) (locale : List ℕ) where
     abbrev here : Answer (List (List ℕ))
     here = labelled rs locale (listed_at rs raw i e)
 
-    pub left_out : is_listed_at rs raw i e ≡ false → (room : Left) → given room ≡ then (spend_list room) here
-    left_out f room = rw (f, labelled-none, list-none 2) (ap given (sym (spend-zero room)))
+    pub left_out : is_listed_at rs raw i e ≡ false → (room : Left) → Ok room ≡ then (spend_list room) here
+    left_out f room = rw (f, labelled-none, list-none 2) (ap Ok (sym (spend-zero room)))
 
     pub nothing_put : is_listed_at rs raw i e ≡ false → (out : List ℕ) (at : ℕ)
         → (at ≡ at + length (list_of 2 (elements_in here))) × (out ≡ over out at (list_of 2 (elements_in here)))
@@ -132,11 +132,11 @@ module _ (rs : List Row) (locale : List ℕ) where
       pub here-is : here ≡ then (λ t. part i e raw ∷ t ∷ []) label
       here-is = rw h (one-labelled (part i e raw) (and_both (is_action rs (part i e raw)) (not (any (same (part i e raw)) (elements (take i raw)))) h).0)
 
-      pub label-wrong : {f : Fault} (room : Left) → label ≡ refused f → refused f ≡ then (spend_list room) here
+      pub label-wrong : {f : Fault} (room : Left) → label ≡ Err f → Err f ≡ then (spend_list room) here
       label-wrong room w = rw (here-is, w)
 
-      pub label-left : (room : Left) {n m : ℕ} {l k rest : Left} → e ≤ length raw → m ≡ e - i → given n ≡ then length label
-          → l ≡ spend room 12 → k ≡ spend l m → rest ≡ spend k n → given rest ≡ then (spend_list room) here
+      pub label-left : (room : Left) {n m : ℕ} {l k rest : Left} → e ≤ length raw → m ≡ e - i → Ok n ≡ then length label
+          → l ≡ spend room 12 → k ≡ spend l m → rest ≡ spend k n → Ok rest ≡ then (spend_list room) here
       label-left room {m = m} b c w x y z =
           let own : m ≡ length (part i e raw) = c ∙ sym (length_part i e raw b) in
           rw (here-is, z, y, x, own) (pair_left room (part i e raw) label w)
@@ -146,8 +146,8 @@ module _ (rs : List Row) (locale : List ℕ) where
       label-sound a = go label (rw here-is at a)
         where
           go : (x : Answer (List ℕ)) → accepted (then (λ t. part i e raw ∷ t ∷ []) x) ≡ true → accepted x ≡ true
-          go (given t) a = refl
-          go (refused f) a = absurd (false≢true a)
+          go (Ok t) a = refl
+          go (Err f) a = absurd (false≢true a)
 
       pub label-bytes : accepted here ≡ true
           → list_of 2 (elements_in here) ≡ record_bytes (record { kind = 2; body = part i e raw }) ++ record_bytes (record { kind = 2; body = text_of label })
@@ -155,8 +155,8 @@ module _ (rs : List Row) (locale : List ℕ) where
         where
           go : (x : Answer (List ℕ)) → accepted x ≡ true → list_of 2 (elements_in (then (λ t. part i e raw ∷ t ∷ []) x))
               ≡ record_bytes (record { kind = 2; body = part i e raw }) ++ record_bytes (record { kind = 2; body = text_of x })
-          go (given t) a = rw (list-of-cons 2 (part i e raw) (t ∷ []), list-of-cons 2 t [], list-none 2, append-nil (record_bytes (record { kind = 2; body = t })))
-          go (refused f) a = absurd (false≢true a)
+          go (Ok t) a = rw (list-of-cons 2 (part i e raw) (t ∷ []), list-of-cons 2 t [], list-none 2, append-nil (record_bytes (record { kind = 2; body = t })))
+          go (Err f) a = absurd (false≢true a)
 
       -- the two records, the label's right behind the identifier's
       abbrev id : Rec
@@ -227,17 +227,17 @@ module _ (rs : List Row) (raw locale : List ℕ) where
   room-start room = record { parted = parted-start raw; goes = ap (λ (ids : List (List ℕ)). then (spend_list (left.Bytes room)) (labelled rs locale ids)) (later-start rs raw) }
 
   module _ {room i : ℕ} {rest : Left} (s : RoomLeft room i rest) where
-    pub room-end : length raw ≤ i → given rest ≡ then (spend_list (left.Bytes room)) whole
+    pub room-end : length raw ≤ i → Ok rest ≡ then (spend_list (left.Bytes room)) whole
     room-end h = sym (rw (later-end rs raw i h, labelled-none rs locale, list-none 2, spend-zero rest)) ∙ s.goes
 
     module _ {e : ℕ} (h : i < length raw) (q : e ≡ i + element_length (drop i raw) false) where
       abbrev own : Answer (List (List ℕ))
       own = labelled rs locale (listed_at rs raw i e)
 
-      pub room-wrong : {f : Fault} → refused f ≡ then (spend_list rest) own → refused f ≡ then (spend_list (left.Bytes room)) whole
+      pub room-wrong : {f : Fault} → Err f ≡ then (spend_list rest) own → Err f ≡ then (spend_list (left.Bytes room)) whole
       room-wrong w = sym (joint-wrong rest own (from (e + 1)) w) ∙ sym (ap (then (spend_list rest)) (from_next s.parted h q)) ∙ s.goes
 
-      pub room_next : {rest' : Left} → given rest' ≡ then (spend_list rest) own → RoomLeft room (e + 1) rest'
+      pub room_next : {rest' : Left} → Ok rest' ≡ then (spend_list rest) own → RoomLeft room (e + 1) rest'
       room_next w =
           record {
             parted = parted-next s.parted h q;
@@ -300,40 +300,40 @@ pub label-chosen : (file group locale : List ℕ) → label_value (read_rows fil
 label-chosen file group locale = rw (chosen-stands file group (ascii "Name") locale) (by (chosen (read_rows file) group (ascii "Name") locale))
   where
     by : (o : Option Row) → maybe o [] raw_value ≡ text_of (then raw_value (some_or o Missing))
-    by none = refl
-    by (some r) = refl
+    by None = refl
+    by (Some r) = refl
 
 -- ---- the whole answer
 
 module _ (a : Answer (List (List ℕ))) (out : List ℕ) where
-  pub records-wrong : {f : Fault} → refused f ≡ then (spend_list (left.Bytes (length out))) a → Leaves (then (list_of 2) a) out (refused f) out
+  pub records-wrong : {f : Fault} → Err f ≡ then (spend_list (left.Bytes (length out))) a → Leaves (then (list_of 2) a) out (Err f) out
   records-wrong {f} w = go a w
     where
-      go : (a : Answer (List (List ℕ))) → refused f ≡ then (spend_list (left.Bytes (length out))) a → Leaves (then (list_of 2) a) out (refused f) out
-      go (given xs) w = no (cc)
-      go (refused g) w = let z : ◌≡◌ {A = Answer (List ℕ)} (refused g) (refused f) = cc in leaves-refused (refused g) f out z
+      go : (a : Answer (List (List ℕ))) → Err f ≡ then (spend_list (left.Bytes (length out))) a → Leaves (then (list_of 2) a) out (Err f) out
+      go (Ok xs) w = no (cc)
+      go (Err g) w = let z : ◌≡◌ {A = Answer (List ℕ)} (Err g) (Err f) = cc in leaves-refused (Err g) f out z
 
-  pub records-short : given left.Short ≡ then (spend_list (left.Bytes (length out))) a → Leaves (then (list_of 2) a) out (refused NoRoom) out
+  pub records-short : Ok left.Short ≡ then (spend_list (left.Bytes (length out))) a → Leaves (then (list_of 2) a) out (Err NoRoom) out
   records-short w = go a w
     where
-      go : (a : Answer (List (List ℕ))) → given left.Short ≡ then (spend_list (left.Bytes (length out))) a → Leaves (then (list_of 2) a) out (refused NoRoom) out
-      go (refused g) w = no (cc)
-      go (given xs) w = let z : left.Short ≡ spend_list (left.Bytes (length out)) xs = cc in leaves-full (given (list_of 2 xs)) out refl (spend-lacks z)
+      go : (a : Answer (List (List ℕ))) → Ok left.Short ≡ then (spend_list (left.Bytes (length out))) a → Leaves (then (list_of 2) a) out (Err NoRoom) out
+      go (Err g) w = no (cc)
+      go (Ok xs) w = let z : left.Short ≡ spend_list (left.Bytes (length out)) xs = cc in leaves-full (Ok (list_of 2 xs)) out refl (spend-lacks z)
 
-  module _ {n : ℕ} (w : given (left.Bytes n) ≡ then (spend_list (left.Bytes (length out))) a) where
+  module _ {n : ℕ} (w : Ok (left.Bytes n) ≡ then (spend_list (left.Bytes (length out))) a) where
     pub records-fit : (accepted a ≡ true) × (length (list_of 2 (elements_in a)) ≤ length out)
     records-fit = go a w
       where
-        go : (a : Answer (List (List ℕ))) → given (left.Bytes n) ≡ then (spend_list (left.Bytes (length out))) a
+        go : (a : Answer (List (List ℕ))) → Ok (left.Bytes n) ≡ then (spend_list (left.Bytes (length out))) a
             → (accepted a ≡ true) × (length (list_of 2 (elements_in a)) ≤ length out)
-        go (refused g) w = no (cc)
-        go (given xs) w = let z : left.Bytes n ≡ spend_list (left.Bytes (length out)) xs = cc in (refl, spend-was z)
+        go (Err g) w = no (cc)
+        go (Ok xs) w = let z : left.Bytes n ≡ spend_list (left.Bytes (length out)) xs = cc in (refl, spend-was z)
 
     pub records-put : {r : ℕ} {out' : List ℕ} → (r ≡ length (list_of 2 (elements_in a))) × (out' ≡ at_front out (list_of 2 (elements_in a)))
-        → Leaves (then (list_of 2) a) out (given r) out'
+        → Leaves (then (list_of 2) a) out (Ok r) out'
     records-put {r} {out'} p = go a records-fit p
       where
         go : (a : Answer (List (List ℕ))) → (accepted a ≡ true) × (length (list_of 2 (elements_in a)) ≤ length out)
-            → (r ≡ length (list_of 2 (elements_in a))) × (out' ≡ at_front out (list_of 2 (elements_in a))) → Leaves (then (list_of 2) a) out (given r) out'
-        go (refused g) f p = absurd (false≢true f.0)
-        go (given xs) f p = leaves-written (given (list_of 2 xs)) out refl f.1 p
+            → (r ≡ length (list_of 2 (elements_in a))) × (out' ≡ at_front out (list_of 2 (elements_in a))) → Leaves (then (list_of 2) a) out (Ok r) out'
+        go (Err g) f p = absurd (false≢true f.0)
+        go (Ok xs) f p = leaves-written (Ok (list_of 2 xs)) out refl f.1 p

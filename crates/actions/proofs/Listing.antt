@@ -1,4 +1,5 @@
 -- Which actions are listed: those of the list that are actions, each once, each with a label. Assumes nothing.
+use Rattle.std.specs.Prelude.{Ok}
 use mathlib.Core.Path.{◌≡◌, refl, sym, ap, ◌∙◌}
 use Prim.Native.Nat.{ℕ}
 use mathlib.Core.Bool.{Bool, true, false, ◌&&◌, ◌||◌, and-false, and-true, or-true}
@@ -7,7 +8,6 @@ use Rattle.base.specs.Choice.{pick, there}
 use Rattle.base.specs.Lists.{ascii, same, any, all}
 use Rattle.base.proofs.Tests.{by-test, and_both, same_refl, same_true}
 use Rattle.base.proofs.Search.{any-middle}
-use Rattle.fault.specs.Answer.{given}
 use Rattle.characters.specs.Class.{key_byte}
 use Rattle.text.specs.Element.{elements_of}
 use Rattle.line.specs.Form.{plain_form}
@@ -100,7 +100,7 @@ module _ (rs : List Row) where
       no-action : (id : List ℕ) → plain_form id ≡ false → is_action rs id ≡ false
       no-action id f = unfold is_action in rw f
 
-  module _ (raw : List ℕ) {ts : List (List ℕ)} (r : elements_of raw ≡ given ts) where
+  module _ (raw : List ℕ) {ts : List (List ℕ)} (r : elements_of raw ≡ Ok ts) where
     alike : AllAlike ts (elements raw)
     unfolding elements_of
     alike = all_alike (elements raw) 0 ts r

@@ -1,9 +1,9 @@
 -- The actions of an application (02, A1): those that are listed, each with its label, and the expansion of an action's own Exec. Assumes nothing.
-use Rattle.std.specs.Prelude.{ℕ, Bool, not, ◌&&◌, List, [], ◌∷◌, ◌++◌}
+use Rattle.std.specs.Prelude.{ℕ, Bool, not, ◌&&◌, List, [], ◌∷◌, ◌++◌, Ok}
 use Rattle.base.specs.Choice.{pick, maybe}
 use Rattle.base.specs.Lists.{ascii, same, any}
 use Rattle.fault.specs.declared.Fault.TheVariants.{BadArgument, Missing}
-use Rattle.fault.specs.Answer.{Answer, given, ◌>>=◌, need, then}
+use Rattle.fault.specs.Answer.{Answer, ◌>>=◌, need, then}
 use Rattle.record.specs.Record.{list_of}
 use Rattle.text.specs.Element.{elements_of}
 use Rattle.line.specs.Form.{plain_form, locale_form}
@@ -45,11 +45,11 @@ listed rs = then (listed_from rs []) (identifiers rs)
 
 -- each identifier and its label, which is its group's Name by locale, or the first label's refusal
 unfoldable pub labelled : List Row → List ℕ → List (List ℕ) → Answer (List (List ℕ))
-labelled rs locale [] = given []
+labelled rs locale [] = Ok []
 labelled rs locale (id ∷ ids) = do
   label ← name_in rs (action_group id) locale
   later ← labelled rs locale ids
-  given (id ∷ label ∷ later)
+  Ok (id ∷ label ∷ later)
 
 -- the call that lists: 1 to 6, the locale (7), Actions (9), the labels in list order (9); records of kind 2, identifier then label
 unfoldable pub actions : List ℕ → List ℕ → Answer (List ℕ)
@@ -58,7 +58,7 @@ actions file locale = do
   _ ← need (locale_form locale) BadArgument
   ids ← listed (read_rows file)
   bodies ← labelled (read_rows file) locale ids
-  given (list_of 2 bodies)
+  Ok (list_of 2 bodies)
 
 -- the expansion of an action's own Exec: what every expansion asks, Actions (9), an identifier that is not listed (8), then as for the
 -- application's Exec, with the action's Icon; the arguments as records of kind 3
@@ -68,4 +68,4 @@ expand_action file id locale location list run = do
   ids ← listed (read_rows file)
   _ ← need (any (same id) ids) Missing
   args ← group_arguments (read_rows file) (action_group id) locale location items run
-  given (list_of 3 args)
+  Ok (list_of 3 args)

@@ -1,7 +1,7 @@
 -- Questions to the elements of a list: some, the first, the last. Assumes nothing.
+use Rattle.std.specs.Prelude.{Option, Some, None}
 use mathlib.Core.Path.{◌≡◌, refl, sym, ap, ap₂, ◌∙◌}
 use mathlib.Core.Bool.{Bool, true, false, not, ◌&&◌, ◌||◌, or-true}
-use mathlib.Core.Option.{Option, none, some}
 use mathlib.Core.List.{List, [], ◌∷◌, ◌++◌, map}
 use Rattle.base.specs.Choice.{pick, maybe, there}
 use Rattle.base.specs.Lists.{any, all, first, last}
@@ -58,34 +58,34 @@ module _ {A : Type 0} (p : A → Bool) where
   there-first [] = refl
   there-first (x ∷ xs) = go (p x) (there-first xs)
     where
-      go : (t : Bool) → there (first p xs) ≡ any p xs → there (pick t (some x) (first p xs)) ≡ (t || any p xs)
+      go : (t : Bool) → there (first p xs) ≡ any p xs → there (pick t (Some x) (first p xs)) ≡ (t || any p xs)
       go true e = refl
       go false e = e
 
-  pub first-append : (xs ys : List A) → first p (xs ++ ys) ≡ maybe (first p xs) (first p ys) some
+  pub first-append : (xs ys : List A) → first p (xs ++ ys) ≡ maybe (first p xs) (first p ys) Some
   unfolding first
   first-append [] ys = refl
   first-append (x ∷ xs) ys = go (p x) (first-append xs ys)
     where
-      go : (t : Bool) → first p (xs ++ ys) ≡ maybe (first p xs) (first p ys) some
-          → pick t (some x) (first p (xs ++ ys)) ≡ maybe (pick t (some x) (first p xs)) (first p ys) some
+      go : (t : Bool) → first p (xs ++ ys) ≡ maybe (first p xs) (first p ys) Some
+          → pick t (Some x) (first p (xs ++ ys)) ≡ maybe (pick t (Some x) (first p xs)) (first p ys) Some
       go true e = refl
       go false e = e
 
-  pub first-none : (xs : List A) → any p xs ≡ false → first p xs ≡ none
+  pub first-none : (xs : List A) → any p xs ≡ false → first p xs ≡ None
   first-none xs e = go (first p xs) (there-first xs ∙ e)
     where
-      go : (o : Option A) → there o ≡ false → o ≡ none
-      go none e = refl
-      go (some x) e = no (cc)
+      go : (o : Option A) → there o ≡ false → o ≡ None
+      go None e = refl
+      go (Some x) e = no (cc)
 
   -- it passes
-  pub first_passes : (xs : List A) (x : A) → first p xs ≡ some x → p x ≡ true
+  pub first_passes : (xs : List A) (x : A) → first p xs ≡ Some x → p x ≡ true
   unfolding first
   first_passes [] x e = no (cc)
   first_passes (y ∷ xs) x e = go (p y) refl e (first_passes xs x)
     where
-      go : (t : Bool) → p y ≡ t → pick t (some y) (first p xs) ≡ some x → (first p xs ≡ some x → p x ≡ true) → p x ≡ true
+      go : (t : Bool) → p y ≡ t → pick t (Some y) (first p xs) ≡ Some x → (first p xs ≡ Some x → p x ≡ true) → p x ≡ true
       go true i e k = let z : y ≡ x = cc in rw (← z) i
       go false i e k = k e
 
@@ -96,24 +96,24 @@ module _ {A : Type 0} (p : A → Bool) where
   there-last [] = refl
   there-last (x ∷ xs) = go (last p xs) (p x) (there-last xs)
     where
-      go : (o : Option A) (t : Bool) → there o ≡ any p xs → there (maybe o (pick t (some x) none) some) ≡ (t || any p xs)
-      go none true e = refl
-      go none false e = e
-      go (some y) t e = rw (← e) (sym (or-true t))
+      go : (o : Option A) (t : Bool) → there o ≡ any p xs → there (maybe o (pick t (Some x) None) Some) ≡ (t || any p xs)
+      go None true e = refl
+      go None false e = e
+      go (Some y) t e = rw (← e) (sym (or-true t))
 
-  pub last-append : (xs ys : List A) → last p (xs ++ ys) ≡ maybe (last p ys) (last p xs) some
+  pub last-append : (xs ys : List A) → last p (xs ++ ys) ≡ maybe (last p ys) (last p xs) Some
   unfolding last
   last-append [] ys = go (last p ys)
     where
-      go : (o : Option A) → o ≡ maybe o none some
-      go none = refl
-      go (some y) = refl
+      go : (o : Option A) → o ≡ maybe o None Some
+      go None = refl
+      go (Some y) = refl
   last-append (x ∷ xs) ys = go (last p ys) (last-append xs ys)
     where
-      go : (o : Option A) → last p (xs ++ ys) ≡ maybe o (last p xs) some
-          → maybe (last p (xs ++ ys)) (pick (p x) (some x) none) some ≡ maybe o (maybe (last p xs) (pick (p x) (some x) none) some) some
-      go none e = rw e
-      go (some y) e = rw e
+      go : (o : Option A) → last p (xs ++ ys) ≡ maybe o (last p xs) Some
+          → maybe (last p (xs ++ ys)) (pick (p x) (Some x) None) Some ≡ maybe o (maybe (last p xs) (pick (p x) (Some x) None) Some) Some
+      go None e = rw e
+      go (Some y) e = rw e
 
 -- what three questions deny of each element, a fourth may
 pub any_none : {A : Type 0} (p q r s : A → Bool) → ((x : A) → p x ≡ false → q x ≡ false → r x ≡ false → s x ≡ false)

@@ -1,9 +1,9 @@
 -- What tests say, and what equal constructors cannot be. Assumes nothing.
+use Rattle.std.specs.Prelude.{Option, Some, None, option_map}
 use mathlib.Core.Path.{◌≡◌, refl, sym, ap, ap₂, ◌∙◌}
 use Prim.Native.Nat.{ℕ, zero, suc}
 use native.Mathlib.Omega.{arith}
 use mathlib.Core.Bool.{Bool, true, false, ◌&&◌, ◌||◌, false≢true}
-use mathlib.Core.Option.{Option, none, some, map}
 use mathlib.Core.List.{List, [], ◌∷◌}
 use lib.Dec.{eqb, eqb-zero-suc, eqb-suc-zero, eqb-suc-suc}
 use borrow.Author.Tests.{eq-eqb, eqb-true}
@@ -20,22 +20,22 @@ by-test true f g = f refl
 by-test false f g = g refl
 
 -- what is there, and that nothing is
-pub some-there : {A : Type 0} (o : Option A) → there o ≡ true → (a : A) × (o ≡ some a)
-some-there none h = no (cc)
-some-there (some a) h = (a, refl)
+pub some-there : {A : Type 0} (o : Option A) → there o ≡ true → (a : A) × (o ≡ Some a)
+some-there None h = no (cc)
+some-there (Some a) h = (a, refl)
 
-pub none-there : {A : Type 0} (o : Option A) → there o ≡ false → o ≡ none
-none-there none h = refl
-none-there (some a) h = no (cc)
+pub none-there : {A : Type 0} (o : Option A) → there o ≡ false → o ≡ None
+none-there None h = refl
+none-there (Some a) h = no (cc)
 
 -- what was made of something that there is, and whether there is something
-pub mapped : {A B : Type 0} (f : A → B) (o : Option A) {b : B} → map f o ≡ some b → (a : A) × (o ≡ some a) × (f a ≡ b)
-mapped f none h = no (cc)
-mapped f (some a) h = (a, refl, cc)
+pub mapped : {A B : Type 0} (f : A → B) (o : Option A) {b : B} → option_map f o ≡ Some b → (a : A) × (o ≡ Some a) × (f a ≡ b)
+mapped f None h = no (cc)
+mapped f (Some a) h = (a, refl, cc)
 
-pub there-map : {A B : Type 0} (f : A → B) (o : Option A) → there (map f o) ≡ there o
-there-map f none = refl
-there-map f (some a) = refl
+pub there-map : {A B : Type 0} (f : A → B) (o : Option A) → there (option_map f o) ≡ there o
+there-map f None = refl
+there-map f (Some a) = refl
 
 pub and_both : (a b : Bool) → (a && b) ≡ true → (a ≡ true) × (b ≡ true)
 and_both true b e = (refl, e)

@@ -1,6 +1,5 @@
 -- Choices by a test and by an option. A choice is a call and no `elim`, so that a proof can rewrite what is asked. Assumes nothing.
-use Rattle.std.specs.Prelude.{Bool, true, false}
-use Rattle.std.proofs.Math.Option.{Option, none, some}
+use Rattle.std.specs.Prelude.{Bool, true, false, Option, Some, None}
 
 -- the first where the test passes, else the second
 abbrev pub pick : {A : Type 0} → Bool → A → A → A
@@ -9,10 +8,10 @@ pick false a b = b
 
 -- the first where there is nothing, else what the function makes of it
 abbrev pub maybe : {A B : Type 0} → Option A → B → (A → B) → B
-maybe none b f = b
-maybe (some a) b f = f a
+maybe None b f = b
+maybe (Some a) b f = f a
 
 -- there is something
 abbrev pub there : {A : Type 0} → Option A → Bool
-there none = false
-there (some a) = true
+there None = false
+there (Some a) = true

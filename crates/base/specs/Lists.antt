@@ -1,10 +1,9 @@
 -- Texts as bytes, and a few questions about lists. Where both branches recur, each is bound by a `let`, so that only the one taken is
 -- computed. Assumes nothing.
-use Rattle.std.specs.Prelude.{ℕ, suc, ◌-◌, Bool, true, false, ◌&&◌, ◌||◌, List, [], ◌∷◌, ◌++◌, take, drop, eqb}
+use Rattle.std.specs.Prelude.{ℕ, suc, ◌-◌, Bool, true, false, ◌&&◌, ◌||◌, List, [], ◌∷◌, ◌++◌, take, drop, eqb, Option, Some, None}
 use Prim.Native.Char.{code}
 use Prim.Native.String.{String}
 use Prim.Native.String as text
-use Rattle.std.proofs.Math.Option.{Option, none, some}
 use Rattle.base.specs.Choice.{pick, maybe}
 
 -- the bytes of an ASCII text
@@ -45,13 +44,13 @@ all p (x ∷ xs) = p x && all p xs
 
 -- the first element that passes the test
 unfoldable pub first : {A : Type 0} → (A → Bool) → List A → Option A
-first p [] = none
-first p (x ∷ xs) = let later : Option _ = first p xs in pick (p x) (some x) later
+first p [] = None
+first p (x ∷ xs) = let later : Option _ = first p xs in pick (p x) (Some x) later
 
 -- the last element that passes the test
 unfoldable pub last : {A : Type 0} → (A → Bool) → List A → Option A
-last p [] = none
-last p (x ∷ xs) = maybe (last p xs) (pick (p x) (some x) none) some
+last p [] = None
+last p (x ∷ xs) = maybe (last p xs) (pick (p x) (Some x) None) Some
 
 -- the lists one after another
 unfoldable pub joined : List (List ℕ) → List ℕ

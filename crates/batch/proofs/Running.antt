@@ -1,9 +1,9 @@
 -- The requests of a list in turn: those before a place are done, and those from there on decide. Assumes nothing.
+use Rattle.std.specs.Prelude.{Option, Some, None, Ok, Err}
 use mathlib.Core.Path.{◌≡◌, refl, sym, ap, ◌∙◌}
 use Prim.Native.Nat.{ℕ, suc, ◌+◌, ◌≤◌, ◌<◌}
 use native.Mathlib.Omega.{arith}
 use mathlib.Core.Bool.{Bool, true, false}
-use mathlib.Core.Option.{Option, none, some}
 use mathlib.Core.List.{List, [], ◌∷◌, map}
 use lib.ListN.{length, drop}
 use lib.Dec.{leb}
@@ -12,7 +12,7 @@ use Rattle.base.specs.Lists.{part}
 use Rattle.base.proofs.Tests.{no, some-there, none-there, mapped}
 use Rattle.fault.specs.declared.Fault.{Fault}
 use Rattle.fault.specs.declared.Fault.TheVariants.{Damaged}
-use Rattle.fault.specs.Answer.{Answer, given, refused, ◌>>=◌, some_or}
+use Rattle.fault.specs.Answer.{Answer, ◌>>=◌, some_or}
 use Rattle.record.specs.Record.{whole, read_records}
 use Rattle.record.proofs.Place.{Stands}
 use Rattle.record.proofs.Each.{each-done, each-damaged, each_step, at_none, at-record}
@@ -37,27 +37,27 @@ pub record Running (s : State) (author : Author) (list : List ℕ) (at n : ℕ) 
   pub inside : at ≤ length list
   pub few : n ≤ at
   pub left : List Asked
-  pub reads : read_records read_request (drop at list) ≡ some left
+  pub reads : read_records read_request (drop at list) ≡ Some left
   pub journal : Journal
-  pub opens : opened t ≡ given journal
+  pub opens : opened t ≡ Ok journal
   pub same : batch s author list ≡ behind n (in_turn author (map request_of left) t)
 
 -- ---- at first
 
-opened_some : (a : Answer Journal) → given tt ≡ passed a → (j : Journal) × (a ≡ given j)
-opened_some (given j) e = (j, refl)
-opened_some (refused f) e = no (cc)
+opened_some : (a : Answer Journal) → Ok tt ≡ passed a → (j : Journal) × (a ≡ Ok j)
+opened_some (Ok j) e = (j, refl)
+opened_some (Err f) e = no (cc)
 
-requests-within : (list : List ℕ) {xs : List Asked} → read_requests list ≡ some xs → read_records read_request list ≡ some xs
+requests-within : (list : List ℕ) {xs : List Asked} → read_requests list ≡ Some xs → read_records read_request list ≡ Some xs
 unfolding read_requests
 requests-within list {xs} = go (leb (length list) 65536)
   where
-    go : (t : Bool) → pick t (read_records read_request list) none ≡ some xs → read_records read_request list ≡ some xs
+    go : (t : Bool) → pick t (read_records read_request list) None ≡ Some xs → read_records read_request list ≡ Some xs
     go true e = e
     go false e = no (cc)
 
 -- a list that is read, once file and journal are opened
-begins : (s : State) (author : Author) (list : List ℕ) (j : Journal) (xs : List Asked) → opened s ≡ given j → read_requests list ≡ some xs
+begins : (s : State) (author : Author) (list : List ℕ) (j : Journal) (xs : List Asked) → opened s ≡ Ok j → read_requests list ≡ Some xs
     → batch s author list ≡ behind 0 (in_turn author (map request_of xs) s)
 unfolding batch listed
 begins s author list j xs e h = rw (e, h) (none_before (in_turn author (map request_of xs) s))
@@ -65,7 +65,7 @@ begins s author list j xs e h = rw (e, h) (none_before (in_turn author (map requ
     none_before : (b : Batch) → b ≡ behind 0 b
     none_before b = let z : b.done ≡ 0 + b.done = omega arith in λ i. record { done = z i; stopped = b.stopped; state = b.state }
 
-pub run-begin : (s : State) (author : Author) (list : List ℕ) → given tt ≡ passed (opened s) → there (read_requests list) ≡ true → Running s author list 0 0 s
+pub run-begin : (s : State) (author : Author) (list : List ℕ) → Ok tt ≡ passed (opened s) → there (read_requests list) ≡ true → Running s author list 0 0 s
 run-begin s author list e h =
     let o = opened_some (opened s) e in
     let x = some-there (read_requests list) h in
@@ -85,7 +85,7 @@ module _ {s : State} {author : Author} {list : List ℕ} {at n : ℕ} {t : State
   pub run-damaged {ℓ} : {X : Type ℓ} → at < length list → whole (drop at list) ≡ false → X
   run-damaged h e = let z = each-damaged read_request list at h (at_none read_request list at e) in let r = w.reads in no (cc)
 
-  pub run-done : length list ≤ at → record { done = n; stopped = none; state = t } ≡ batch s author list
+  pub run-done : length list ≤ at → record { done = n; stopped = None; state = t } ≡ batch s author list
   unfolding in_turn
   run-done h =
       let r = w.reads in
@@ -97,20 +97,20 @@ module _ {s : State} {author : Author} {list : List ℕ} {at n : ℕ} {t : State
     -- the request of the record that stands at the place
     record Here : Type 0 where
       asked : Asked
-      reads_here : read_request (record { kind = kind; body = part (at + 6) end list }) ≡ some asked
+      reads_here : read_request (record { kind = kind; body = part (at + 6) end list }) ≡ Some asked
       others : List Asked
       left_is : w.left ≡ asked ∷ others
-      reads-others : read_records read_request (drop end list) ≡ some others
+      reads-others : read_records read_request (drop end list) ≡ Some others
 
     here : Here
     here = go (read_request (record { kind = kind; body = part (at + 6) end list })) refl
       where
         go : (o : Option Asked) → read_request (record { kind = kind; body = part (at + 6) end list }) ≡ o → Here
-        go none e =
+        go None e =
             let z = each-damaged read_request list at (omega arith) (at-record read_request list at r ∙ e) in
             let q = w.reads in
             no (cc)
-        go (some a) e =
+        go (Some a) e =
             let z = each_step read_request list at (at-record read_request list at r ∙ e) in
             let x = mapped (λ xs. a ∷ xs) (read_records read_request (drop end list)) (rw (← r.ends) at (sym z ∙ w.reads)) in
             record { asked = a; reads_here = e; others = x.0; left_is = sym x.2; reads-others = x.1 }
@@ -126,13 +126,13 @@ module _ {s : State} {author : Author} {list : List ℕ} {at n : ℕ} {t : State
 
     pub run-stopped : {f : Fault} {file journal : List ℕ}
         → MadeOf kind (part (at + 6) end list) author t.file t.size t.journal t.standing (edited.Refused f) file journal
-        → record { done = n; stopped = some f; state = lent file t.size journal t.used t.standing } ≡ batch s author list
+        → record { done = n; stopped = Some f; state = lent file t.size journal t.used t.standing } ≡ batch s author list
     run-stopped {f} {file} {journal} m =
         let x = made-refused (single m) in
         let k : n ≡ n + 0 = omega arith in
-        let y : behind n (after t (request t (by author (request_of here.asked))) (in_turn author (map request_of here.others))) ≡ behind n (nothing t (some f)) = rw x.0 in
-        let z : record { done = n; stopped = some f; state = lent file t.size journal t.used t.standing } ≡ behind n (nothing t (some f)) =
-        λ i. record { done = k i; stopped = some f; state = lent (x.1 i) t.size (x.2 i) t.used t.standing } in
+        let y : behind n (after t (request t (by author (request_of here.asked))) (in_turn author (map request_of here.others))) ≡ behind n (nothing t (Some f)) = rw x.0 in
+        let z : record { done = n; stopped = Some f; state = lent file t.size journal t.used t.standing } ≡ behind n (nothing t (Some f)) =
+        λ i. record { done = k i; stopped = Some f; state = lent (x.1 i) t.size (x.2 i) t.used t.standing } in
         z ∙ sym (turn m ∙ y)
 
     pub run-next : person_of author < 65536 → {size used standing : ℕ} {file journal : List ℕ}
@@ -159,16 +159,16 @@ module _ {s : State} {author : Author} {list : List ℕ} {at n : ℕ} {t : State
 
 module _ (s : State) (author : Author) (list : List ℕ) where
   -- lengths, file or journal
-  pub not_opened : {f : Fault} → refused f ≡ passed (opened s) → nothing s (some f) ≡ batch s author list
+  pub not_opened : {f : Fault} → Err f ≡ passed (opened s) → nothing s (Some f) ≡ batch s author list
   unfolding batch listed
   not_opened {f} e = go (opened s) e
     where
-      go : (a : Answer Journal) → refused f ≡ passed a
-          → nothing s (some f) ≡ begun s author (a >>= λ _. (some_or (read_requests list) Damaged >>= λ asked. given (map request_of asked)))
-      go (given j) h = no (cc)
-      go (refused g) h = let z : f ≡ g = cc in rw z
+      go : (a : Answer Journal) → Err f ≡ passed a
+          → nothing s (Some f) ≡ begun s author (a >>= λ _. (some_or (read_requests list) Damaged >>= λ asked. Ok (map request_of asked)))
+      go (Ok j) h = no (cc)
+      go (Err g) h = let z : f ≡ g = cc in rw z
 
   -- the list
-  pub not-read : given tt ≡ passed (opened s) → there (read_requests list) ≡ false → nothing s (some Damaged) ≡ batch s author list
+  pub not-read : Ok tt ≡ passed (opened s) → there (read_requests list) ≡ false → nothing s (Some Damaged) ≡ batch s author list
   unfolding batch listed
   not-read e h = rw ((opened_some (opened s) e).1, none-there (read_requests list) h)

@@ -1,9 +1,8 @@
 // Many set and remove requests in one call.
 #![tactic(auto)]
 
-ghost use Rattle.std.specs.Prelude.{◌≡◌, true};
+ghost use Rattle.std.specs.Prelude.{◌≡◌, true, Ok};
 ghost use Rattle.base.specs.Choice.{there};
-ghost use Rattle.fault.specs.Answer.{given};
 ghost use Rattle.requests.specs.Requests.{read_requests};
 ghost use Rattle.journal.specs.Journal.{Person};
 ghost use Rattle.edit.specs.Calls.{opened, lent};
@@ -95,7 +94,7 @@ fn run(
     person: u16,
     list: &[u8],
 ) -> Batched
-    requires opens { given tt ≡ passed (opened (lent file.old size journal.old used standing)) }
+    requires opens { Ok tt ≡ passed (opened (lent file.old size journal.old used standing)) }
     requires list_reads { there (read_requests list.now) ≡ true }
     ensures { spec.Made (spec.batch (lent file.old size journal.old used standing) (Person person) list.now) result file.new journal.new }
 {

@@ -1,9 +1,9 @@
 -- What an accepted request says of the file and its edit, and that the edit's old bytes stand at its place. Assumes nothing.
+use Rattle.std.specs.Prelude.{Option, Some, None, Ok}
 use mathlib.Core.Path.{◌≡◌, refl, sym, ap, ◌∙◌}
 use Prim.Native.Nat.{ℕ, ◌+◌, ◌-◌, ◌≤◌}
 use native.Mathlib.Omega.{arith}
 use mathlib.Core.Bool.{Bool, true, false, not, ◌&&◌, ◌||◌, false≢true}
-use mathlib.Core.Option.{Option, none, some}
 use mathlib.Core.List.{List, [], ◌∷◌, ◌++◌, append_assoc, append-nil}
 use lib.ListN.{length, take, drop, length-append, take-append-drop}
 use lib.Seq.{length-take-le}
@@ -14,7 +14,6 @@ use Rattle.base.specs.Lists.{same, joined, any, last}
 use Rattle.base.proofs.Clean.{Clean}
 use Rattle.base.proofs.Lists.{joined-append}
 use Rattle.base.proofs.Tests.{and_both, same_true}
-use Rattle.fault.specs.Answer.{given}
 use Rattle.text.specs.Escape.{fit_text, raw_text}
 use Rattle.line.specs.Form.{group_form, key_form}
 use Rattle.line.specs.Line.{read_line}
@@ -39,7 +38,7 @@ pub record SetOf (f group key text : List ℕ) (e : Edit) : Type 0 where
   pub form : (group_form group && key_form key) ≡ true
   pub fit : fit_text text ≡ true
   pub end : Row
-  pub ends : last (λ r. of_group group (title r)) (read_rows f) ≡ some end
+  pub ends : last (λ r. of_group group (title r)) (read_rows f) ≡ Some end
   pub plain : (is_plain key || has (read_rows f) (Key group (plain_of key))) ≡ true
   pub is : maybe (find_row (read_rows f) (Key group key)) (inserting end key (raw_text text)) (λ r. replacing r (raw_text text)) ≡ e
 
@@ -47,11 +46,11 @@ pub record SetOf (f group key text : List ℕ) (e : Edit) : Type 0 where
 pub record RemoveOf (f group key : List ℕ) (e : Edit) : Type 0 where
   pub form : (group_form group && key_form key) ≡ true
   pub row : Row
-  pub found : find_row (read_rows f) (Key group key) ≡ some row
+  pub found : find_row (read_rows f) (Key group key) ≡ Some row
   pub none_left : any (λ s. postfix_of group key (title s)) (read_rows f) ≡ false
   pub is : removing row ≡ e
 
-pub set-of : (f group key text : List ℕ) (e : Edit) → edit_of f (Set group key text) ≡ given e → SetOf f group key text e
+pub set-of : (f group key text : List ℕ) (e : Edit) → edit_of f (Set group key text) ≡ Ok e → SetOf f group key text e
 unfolding edit_of set_edit
 set-of f group key text e h =
     let a = need-given _ _ _ e h in
@@ -60,7 +59,7 @@ set-of f group key text e h =
     let d = need-given _ _ _ e c.2 in
     record { form = a.0; fit = b.0; end = c.0; ends = c.1; plain = d.0; is = given_is _ e d.1 }
 
-pub remove-of : (f group key : List ℕ) (e : Edit) → edit_of f (Remove group key) ≡ given e → RemoveOf f group key e
+pub remove-of : (f group key : List ℕ) (e : Edit) → edit_of f (Remove group key) ≡ Ok e → RemoveOf f group key e
 unfolding edit_of remove_edit
 remove-of f group key e h =
     let a = need-given _ _ _ e h in
@@ -216,7 +215,7 @@ row_before f group key r e h = by h.xs refl
     by (x ∷ xs) z = last_row x xs (full-before (x ∷ xs) h.bytes h.ys (rw (h.is, z) at (rows_are f)))
 
 -- the group's row after which an entry goes
-pub end_row : (f group : List ℕ) (r : Row) → last (λ s. of_group group (title s)) (read_rows f) ≡ some r → Found (λ s. of_group group (title s)) 0 [] (rows f) r
+pub end_row : (f group : List ℕ) (r : Row) → last (λ s. of_group group (title s)) (read_rows f) ≡ Some r → Found (λ s. of_group group (title s)) 0 [] (rows f) r
 unfolding read_rows
 end_row f group r e = found-last (λ s. of_group group (title s)) (rows f) 1 0 [] r e
 
@@ -224,11 +223,11 @@ splits-set : (f group key text : List ℕ) (e : Edit) → SetOf f group key text
 splits-set f group key text e h = by (find_row (read_rows f) (Key group key)) refl h.is
   where
     by : (o : Option Row) → find_row (read_rows f) (Key group key) ≡ o → maybe o (inserting h.end key (raw_text text)) (λ r. replacing r (raw_text text)) ≡ e → Splits e f
-    by none z i =
+    by None z i =
         let w = end_row f group h.end h.ends in
         rw (← i, w.row, inserting-is f w.xs w.bytes w.ys w.is w.number (group_end [] w.xs) key (raw_text text) (ended w.bytes) refl)
         (splits-insert f w.xs w.bytes w.ys w.is _)
-    by (some r) z i =
+    by (Some r) z i =
         let w = found-row f (Key group key) r z in
         let k = keyed-row group key 0 [] (rows f) r w in
         let b = rw k.entry at (line-within (line_of w.bytes)) in
@@ -242,12 +241,12 @@ splits-remove f group key e h =
     (splits-removing f w.xs w.bytes w.ys w.is (row_before f group key h.row h.form w) (ended w.bytes))
 
 -- an accepted request's edit finds its old bytes at its place
-pub edit-splits : (f : List ℕ) (q : Request) (e : Edit) → edit_of f q ≡ given e → Splits e f
+pub edit-splits : (f : List ℕ) (q : Request) (e : Edit) → edit_of f q ≡ Ok e → Splits e f
 edit-splits f (Set group key text) e h = splits-set f group key text e (set-of f group key text e h)
 edit-splits f (Remove group key) e h = splits-remove f group key e (remove-of f group key e h)
 
 -- its old bytes stand there, its reverse takes it back, and so many bytes more or less are left
-module _ (f : List ℕ) (q : Request) (e : Edit) (h : edit_of f q ≡ given e) where
+module _ (f : List ℕ) (q : Request) (e : Edit) (h : edit_of f q ≡ Ok e) where
   pub edit-stands : stands e f ≡ true
   edit-stands = splits-stands e f (edit-splits f q e h)
 

@@ -1,9 +1,9 @@
 -- What a set or a remove changes, by what was found in the file. Assumes nothing.
+use Rattle.std.specs.Prelude.{Option, Some, None}
 use mathlib.Core.Path.{◌≡◌, refl, sym, ap, ◌∙◌}
 use Prim.Native.Nat.{ℕ, ◌+◌, ◌-◌, ◌≤◌, ◌<◌}
 use native.Mathlib.Omega.{arith}
 use mathlib.Core.Bool.{Bool, true, false, ◌&&◌, ◌||◌}
-use mathlib.Core.Option.{Option, none, some}
 use mathlib.Core.List.{List, [], ◌∷◌, ◌++◌}
 use lib.ListN.{length, take, drop, length-append}
 use lib.Seq.{take-length}
@@ -69,13 +69,13 @@ module _ (key : List ℕ) {n : ℕ} (q : n ≡ 0 + span key_byte (drop 0 key)) w
 -- ---- what was found
 
 -- the row behind a slot
-slot_row : (o : Option Row) {at : ℕ} {after : Bool} → slot.At at after ≡ slot_of o → (r : Row) × (o ≡ some r) × (at ≡ r.start + length r.bytes) × (after ≡ ended r.bytes)
-slot_row none e = no (cc)
-slot_row (some r) e = (r, refl, cc, cc)
+slot_row : (o : Option Row) {at : ℕ} {after : Bool} → slot.At at after ≡ slot_of o → (r : Row) × (o ≡ Some r) × (at ≡ r.start + length r.bytes) × (after ≡ ended r.bytes)
+slot_row None e = no (cc)
+slot_row (Some r) e = (r, refl, cc, cc)
 
-slot-none : (o : Option Row) → slot.Nowhere ≡ slot_of o → o ≡ none
-slot-none none e = refl
-slot-none (some r) e = no (cc)
+slot-none : (o : Option Row) → slot.Nowhere ≡ slot_of o → o ≡ None
+slot-none None e = refl
+slot-none (Some r) e = no (cc)
 
 -- an edit's old bytes, by their ends
 module _ {file : List ℕ} {e : Edit} (h : Splits e file) {from to : ℕ} (i : from ≡ e.place) (j : to ≡ e.place + length e.old) where
@@ -125,13 +125,13 @@ module _ (file group key : List ℕ) where
   abbrev SetBy : Target → Type 0
   SetBy t = Aims file key (set_edit (read_rows file) group key) t
 
-  value-by : (r s : Row) {n start end value : ℕ} → ends ≡ some s → true ≡ plain file group key → entry ≡ some r → Told r n start end value → (value ≤ end) × (end ≤ length file)
+  value-by : (r s : Row) {n start end value : ℕ} → ends ≡ Some s → true ≡ plain file group key → entry ≡ Some r → Told r n start end value → (value ≤ end) × (end ≤ length file)
       → SetBy (target.Value value end)
   unfolding set_edit value_ends raw_value
   value-by r s e p y t b =
       record { is = λ text. rw (e, ← p, y, t.value-is, t.end_is, value-stands file (found-row file (Key group key) r y)); inside = b }
 
-  entry-by : (s : Row) {at : ℕ} {after : Bool} → ends ≡ some s → at ≡ s.start + length s.bytes → after ≡ ended s.bytes → true ≡ plain file group key → entry ≡ none
+  entry-by : (s : Row) {at : ℕ} {after : Bool} → ends ≡ Some s → at ≡ s.start + length s.bytes → after ≡ ended s.bytes → true ≡ plain file group key → entry ≡ None
       → SetBy (target.Entry at after)
   unfolding set_edit inserting
   entry-by s e i j p y =
@@ -148,7 +148,7 @@ module _ (file group key : List ℕ) where
   -- the entry is there, and so is its group
   module _ {n start end value : ℕ} (y : found.Row n start end value ≡ found_of entry) where
     -- the group's last row
-    group-there : (s : Row) × (ends ≡ some s)
+    group-there : (s : Row) × (ends ≡ Some s)
     unfolding find_row
     group-there =
         by-test (any (λ r. of_group group (title r)) (read_rows file))
@@ -199,12 +199,12 @@ module _ (file group key : List ℕ) where
 
     -- none is in the way: the row goes
     module _ (p : false ≡ postfixes) where
-      gone-by : (r : Row) → entry file group key ≡ some r → (place : ℕ) (old : List ℕ) → removing r ≡ record { place = place; old = old; new = [] }
+      gone-by : (r : Row) → entry file group key ≡ Some r → (place : ℕ) (old : List ℕ) → removing r ≡ record { place = place; old = old; new = [] }
           → Splits (record { place = place; old = old; new = [] }) file → {from to : ℕ} → from ≡ place → to ≡ place + length old → RemoveBy (target.Line from to)
       unfolding remove_edit
       gone-by r f place old z h i j = record { is = λ text. rw (f, ← p, z, old-part h i j, i); inside = old-inside h i j }
 
-      module _ (r : Row) (f : entry file group key ≡ some r) (t : Told r n start end value) where
+      module _ (r : Row) (f : entry file group key ≡ Some r) (t : Told r n start end value) where
         w : Found (λ s. same_title (Key group key) (title s)) 0 [] (rows file) r
         w = found-row file (Key group key) r f
 

@@ -1,9 +1,9 @@
 -- Going through the rows of a file with a group in mind: its last row, and the postfixed keys in it. Assumes nothing.
+use Rattle.std.specs.Prelude.{Some, None}
 use mathlib.Core.Path.{◌≡◌, refl, sym, ap, ◌∙◌}
 use Prim.Native.Nat.{ℕ, ◌+◌, ◌-◌, ◌≤◌, ◌<◌}
 use native.Mathlib.Omega.{arith}
 use mathlib.Core.Bool.{Bool, true, false, not, ◌&&◌, and-true, and-false, and_assoc}
-use mathlib.Core.Option.{none, some}
 use mathlib.Core.List.{List, [], ◌∷◌}
 use lib.ListN.{length, take, drop, length-take, length-drop}
 use lib.Seq.{take-take, length-take-le}
@@ -92,7 +92,7 @@ module _ {s group : List ℕ} {p : ℕ} {inside : Bool} (w : Passing s group p i
 
   -- the rows up to the next place are those before, and it
   last-next : last (λ r. of_group group (title r)) (read_rows (take (e + 1) s))
-      ≡ maybe (pick (of_group group (title row)) (some row) none) (last (λ r. of_group group (title r)) (read_rows (take p s))) some
+      ≡ maybe (pick (of_group group (title row)) (Some row) None) (last (λ r. of_group group (title r)) (read_rows (take p s))) Some
   unfolding last
   last-next = rw (prefix-read w.starts h q, last-append (λ r. of_group group (title r)) (read_rows (take p s)) (row ∷ []))
 

@@ -1,9 +1,9 @@
 -- A set of an entry that is there gives its row another value and leaves the other rows as they are; so two sets of different entries can be
 -- made in either order. Assumes nothing.
+use Rattle.std.specs.Prelude.{Option, Some, None}
 use mathlib.Core.Path.{◌≡◌, refl, sym, ap, ap₂, ◌∙◌}
 use Prim.Native.Nat.{ℕ}
 use mathlib.Core.Bool.{Bool, true, false, false≢true}
-use mathlib.Core.Option.{Option, none, some}
 use mathlib.Core.List.{List, [], ◌∷◌, ◌++◌, map, map-append}
 use lib.ListN.{take}
 use Rattle.base.specs.Choice.{pick, maybe, there}
@@ -130,8 +130,8 @@ set-rows leading f group key text e h p s = by (find_row (read_rows f) (Key grou
 
     by : (o : Option Row) → find_row (read_rows f) (Key group key) ≡ o → there o ≡ true → maybe o (inserting s.end key v) (λ r. replacing r v) ≡ e
         → rows (spliced e f) ≡ valued (Key group key) v [] (rows f)
-    by none z i j = no (cc)
-    by (some r) z i j =
+    by None z i j = no (cc)
+    by (Some r) z i j =
         let w = found-row f (Key group key) r z in
         let k = keyed-row group key 0 [] (rows f) r w in
         let u = revalued (line_of w.bytes) v k.key-end k.name k.value k.entry (value_of text s.fit) in

@@ -1,9 +1,9 @@
 -- Set and remove, each as one edit of a file (01, "Edits and the journal"). Assumes nothing.
-use Rattle.std.specs.Prelude.{ℕ, ◌+◌, ◌-◌, Bool, false, not, ◌&&◌, ◌||◌, List, [], ◌++◌, length}
+use Rattle.std.specs.Prelude.{ℕ, ◌+◌, ◌-◌, Bool, false, not, ◌&&◌, ◌||◌, List, [], ◌++◌, length, Ok}
 use Rattle.base.specs.Choice.{pick, maybe}
 use Rattle.base.specs.Lists.{ascii, same, any, last}
 use Rattle.fault.specs.declared.Fault.TheVariants.{NoPlainKey, BadArgument, Missing, UnfitText, PostfixesRemain}
-use Rattle.fault.specs.Answer.{Answer, given, ◌>>=◌, need, some_or}
+use Rattle.fault.specs.Answer.{Answer, ◌>>=◌, need, some_or}
 use Rattle.text.specs.Escape.{fit_text, raw_text}
 use Rattle.line.specs.Form.{group_form, key_form}
 use Rattle.rows.specs.Rows.{Row, ended, read_rows, raw_value}
@@ -61,14 +61,14 @@ unfoldable pub set_edit : List Row → List ℕ → List ℕ → List ℕ → An
 set_edit rs group key text = do
   end ← some_or (last (λ r. of_group group (title r)) rs) Missing
   _ ← need (is_plain key || has rs (Key group (plain_of key))) (NoPlainKey 0)
-  given (maybe (find_row rs (Key group key)) (inserting end key (raw_text text)) (λ r. replacing r (raw_text text)))
+  Ok (maybe (find_row rs (Key group key)) (inserting end key (raw_text text)) (λ r. replacing r (raw_text text)))
 
 -- a remove's edit, or 8 and 17
 unfoldable pub remove_edit : List Row → List ℕ → List ℕ → Answer Edit
 remove_edit rs group key = do
   r ← some_or (find_row rs (Key group key)) Missing
   _ ← need (not (any (λ s. postfix_of group key (title s)) rs)) PostfixesRemain
-  given (removing r)
+  Ok (removing r)
 
 -- a request's edit of a well-formed file, or the first of 7, 10, 8, 6, 17
 unfoldable pub edit_of : List ℕ → Request → Answer Edit

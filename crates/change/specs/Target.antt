@@ -1,9 +1,8 @@
 -- What the functions of this crate answer, by the definitions of set and remove. Assumes nothing.
-use Rattle.std.specs.Prelude.{ℕ, ◌+◌, ◌≤◌, ◌≡◌, Bool, true, false, not, ◌&&◌, List, [], length, take, eqb}
-use Rattle.std.proofs.Math.Option.{Option}
+use Rattle.std.specs.Prelude.{ℕ, ◌+◌, ◌≤◌, ◌≡◌, Bool, true, false, not, ◌&&◌, List, [], length, take, eqb, Option, Ok, Err}
 use Rattle.base.specs.Choice.{maybe}
 use Rattle.base.specs.Lists.{same, part}
-use Rattle.fault.specs.Answer.{Answer, given, refused}
+use Rattle.fault.specs.Answer.{Answer}
 use Rattle.text.specs.Escape.{raw_text}
 use Rattle.line.specs.declared.Line.{Line}
 use Rattle.line.specs.declared.Line.TheVariants as line
@@ -31,10 +30,10 @@ new_bytes key text (Refused f) = []
 
 -- the edit of a file, or the refusal
 abbrev pub edit_by : List ℕ → List ℕ → List ℕ → Target → Answer Edit
-edit_by file key text (Value from to) = given (record { place = from; old = part from to file; new = new_bytes key text (Value from to) })
-edit_by file key text (Entry at after) = given (record { place = at; old = []; new = new_bytes key text (Entry at after) })
-edit_by file key text (Gone from to) = given (record { place = from; old = part from to file; new = [] })
-edit_by file key text (Refused f) = refused f
+edit_by file key text (Value from to) = Ok (record { place = from; old = part from to file; new = new_bytes key text (Value from to) })
+edit_by file key text (Entry at after) = Ok (record { place = at; old = []; new = new_bytes key text (Entry at after) })
+edit_by file key text (Gone from to) = Ok (record { place = from; old = part from to file; new = [] })
+edit_by file key text (Refused f) = Err f
 
 -- the places lie in a file of this length, in their order
 abbrev pub Inside : ℕ → Target → Type 0

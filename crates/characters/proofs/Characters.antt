@@ -1,9 +1,9 @@
 -- UTF-8 a character at a time. Assumes nothing.
+use Rattle.std.specs.Prelude.{Option, Some, None}
 use mathlib.Core.Path.{◌≡◌, refl, ◌∙◌}
 use Prim.Native.Nat.{ℕ, zero, suc, ◌+◌, ◌-◌, ◌≤◌, ◌<◌}
 use native.Mathlib.Omega.{arith}
 use mathlib.Core.Bool.{Bool, true, false}
-use mathlib.Core.Option.{Option, none, some}
 use mathlib.Core.List.{List}
 use lib.ListN.{length, drop, get_or}
 use lib.Dec.{ltb}
@@ -22,18 +22,18 @@ use Rattle.characters.proofs.Utf8Laws.{moved, fault-goes, fault-stops, fault-unf
 -- what a character's end says of the text from its place on
 abbrev pub goes_on : (ℕ → Bool) → List ℕ → Rest → Option ℕ
 goes_on plain s (End j) = moved j (text_fault plain Start (drop j s))
-goes_on plain s (Fault j) = some j
+goes_on plain s (Fault j) = Some j
 
 -- it ends inside, behind its place
 abbrev pub EndsIn : ℕ → ℕ → Rest → Type 0
 EndsIn i n (End j) = (i < j) × (j ≤ n)
 EndsIn i n (Fault j) = j ≤ n
 
-pub tail_step : (plain : ℕ → Bool) (more low high b : ℕ) → within low high b ≡ true → step plain (Tail more low high) b ≡ some (tails more)
+pub tail_step : (plain : ℕ → Bool) (more low high b : ℕ) → within low high b ≡ true → step plain (Tail more low high) b ≡ Some (tails more)
 unfolding step
 tail_step plain more low high b e = rw e
 
-tail-stop : (plain : ℕ → Bool) (more low high b : ℕ) → within low high b ≡ false → step plain (Tail more low high) b ≡ none
+tail-stop : (plain : ℕ → Bool) (more low high b : ℕ) → within low high b ≡ false → step plain (Tail more low high) b ≡ None
 unfolding step
 tail-stop plain more low high b e = rw e
 
@@ -85,25 +85,25 @@ module _ (s : List ℕ) (i : ℕ) (h : i < length s) where
   character-goes plain b = by (lead (get_or s i 0)) (lead-step plain (get_or s i 0) b)
     where
       by : (o : Option Due) → step plain Start (get_or s i 0) ≡ o → moved i (text_fault plain Start (drop i s)) ≡ goes_on plain s (begun_at s i o)
-      by none e = fault-stops plain s i Start h e
-      by (some Start) e = fault-goes plain s i Start h e
-      by (some (Tail more low high)) e = fault-goes plain s i Start h e ∙ rest_goes plain s more (i + 1) low high
+      by None e = fault-stops plain s i Start h e
+      by (Some Start) e = fault-goes plain s i Start h e
+      by (Some (Tail more low high)) e = fault-goes plain s i Start h e ∙ rest_goes plain s more (i + 1) low high
 
   pub character-ends : EndsIn i (length s) (character_at s i)
   unfolding character_at
   character-ends = by (lead (get_or s i 0))
     where
       by : (o : Option Due) → EndsIn i (length s) (begun_at s i o)
-      by none = omega arith
-      by (some Start) = (omega arith, omega arith)
-      by (some (Tail more low high)) = weaker i (length s) (rest_at s (i + 1) more low high) (rest-ends s more (i + 1) low high (omega arith))
+      by None = omega arith
+      by (Some Start) = (omega arith, omega arith)
+      by (Some (Tail more low high)) = weaker i (length s) (rest_at s (i + 1) more low high) (rest-ends s more (i + 1) low high (omega arith))
 
 -- an ASCII byte
-pub ascii-step : (plain : ℕ → Bool) (b : ℕ) → b < 128 → plain b ≡ true → step plain Start b ≡ some Start
+pub ascii-step : (plain : ℕ → Bool) (b : ℕ) → b < 128 → plain b ≡ true → step plain Start b ≡ Some Start
 unfolding step
 ascii-step plain b h e = rw (lt-ltb b 128 h, e)
 
-pub ascii-stop : (plain : ℕ → Bool) (b : ℕ) → b < 128 → plain b ≡ false → step plain Start b ≡ none
+pub ascii-stop : (plain : ℕ → Bool) (b : ℕ) → b < 128 → plain b ≡ false → step plain Start b ≡ None
 unfolding step
 ascii-stop plain b h e = rw (lt-ltb b 128 h, e)
 

@@ -1,9 +1,9 @@
 -- UTF-8 with another ending: what follows a fault's byte changes nothing, and before a fault some ending makes a text. Assumes nothing.
+use Rattle.std.specs.Prelude.{Option, Some, None, option_map}
 use mathlib.Core.Path.{◌≡◌, refl}
 use Prim.Native.Nat.{ℕ, zero, suc, ◌≤◌, ◌<◌}
 use native.Mathlib.Omega.{arith}
 use mathlib.Core.Bool.{Bool, true, false}
-use mathlib.Core.Option.{Option, none, some, map}
 use mathlib.Core.List.{List, [], ◌∷◌, ◌++◌}
 use lib.ListN.{length, replicate}
 use lib.Dec.{eqb, ltb}
@@ -19,22 +19,22 @@ use Rattle.characters.proofs.Utf8Laws.{fault-cons}
 
 -- ---- after the fault
 
-pub fault-inside : (plain : ℕ → Bool) (due : Due) (p v w : List ℕ) (n : ℕ) → text_fault plain due (p ++ v) ≡ some n → n < length p → text_fault plain due (p ++ w) ≡ some n
+pub fault-inside : (plain : ℕ → Bool) (due : Due) (p v w : List ℕ) (n : ℕ) → text_fault plain due (p ++ v) ≡ Some n → n < length p → text_fault plain due (p ++ w) ≡ Some n
 fault-inside plain due [] v w n e h = absurd (omega arith)
 fault-inside plain due (b ∷ p) v w n e h =
     rw (fault-cons plain due b (p ++ w)) (go (step plain due b) (rw (fault-cons plain due b (p ++ v)) at e) (λ next m. fault-inside plain next p v w m))
   where
-    one : (next : Due) (o : Option ℕ) → text_fault plain next (p ++ v) ≡ o → map suc o ≡ some n
-        → ((m : ℕ) → text_fault plain next (p ++ v) ≡ some m → m < length p → text_fault plain next (p ++ w) ≡ some m)
-        → map suc (text_fault plain next (p ++ w)) ≡ some n
-    one next none i e r = no (cc)
-    one next (some m) i e r = let j : suc m ≡ n = cc in rw (r m i (omega arith)) e
+    one : (next : Due) (o : Option ℕ) → text_fault plain next (p ++ v) ≡ o → option_map suc o ≡ Some n
+        → ((m : ℕ) → text_fault plain next (p ++ v) ≡ Some m → m < length p → text_fault plain next (p ++ w) ≡ Some m)
+        → option_map suc (text_fault plain next (p ++ w)) ≡ Some n
+    one next None i e r = no (cc)
+    one next (Some m) i e r = let j : suc m ≡ n = cc in rw (r m i (omega arith)) e
 
-    go : (o : Option Due) → maybe o (some 0) (λ next. map suc (text_fault plain next (p ++ v))) ≡ some n
-        → ((next : Due) (m : ℕ) → text_fault plain next (p ++ v) ≡ some m → m < length p → text_fault plain next (p ++ w) ≡ some m)
-        → maybe o (some 0) (λ next. map suc (text_fault plain next (p ++ w))) ≡ some n
-    go none e r = e
-    go (some next) e r = one next (text_fault plain next (p ++ v)) refl e (r next)
+    go : (o : Option Due) → maybe o (Some 0) (λ next. option_map suc (text_fault plain next (p ++ v))) ≡ Some n
+        → ((next : Due) (m : ℕ) → text_fault plain next (p ++ v) ≡ Some m → m < length p → text_fault plain next (p ++ w) ≡ Some m)
+        → maybe o (Some 0) (λ next. option_map suc (text_fault plain next (p ++ w))) ≡ Some n
+    go None e r = e
+    go (Some next) e r = one next (text_fault plain next (p ++ v)) refl e (r next)
 
 -- ---- before the fault
 
@@ -53,8 +53,8 @@ Open Start = Unit
 Open (Tail more low high) = (0x80 ≤ low) × (low ≤ high) × (high ≤ 0xbf)
 
 abbrev Opens : Option Due → Type 0
-Opens none = Unit
-Opens (some due) = Open due
+Opens None = Unit
+Opens (Some due) = Open due
 
 lead-opens : (b : ℕ) → Opens (lead b)
 unfolding lead
@@ -62,13 +62,13 @@ lead-opens b = go (within 0xc2 0xdf b) (eqb b 0xe0) (eqb b 0xed) (within 0xe1 0x
   where
     go : (t₁ t₂ t₃ t₄ t₅ t₆ t₇ : Bool)
         → Opens
-        (pick t₁ (some (Tail 0 0x80 0xbf))
-        (pick t₂ (some (Tail 1 0xa0 0xbf))
-        (pick t₃ (some (Tail 1 0x80 0x9f))
-        (pick t₄ (some (Tail 1 0x80 0xbf))
-        (pick t₅ (some (Tail 2 0x90 0xbf))
-        (pick t₆ (some (Tail 2 0x80 0xbf))
-        (pick t₇ (some (Tail 2 0x80 0x8f)) none)))))))
+        (pick t₁ (Some (Tail 0 0x80 0xbf))
+        (pick t₂ (Some (Tail 1 0xa0 0xbf))
+        (pick t₃ (Some (Tail 1 0x80 0x9f))
+        (pick t₄ (Some (Tail 1 0x80 0xbf))
+        (pick t₅ (Some (Tail 2 0x90 0xbf))
+        (pick t₆ (Some (Tail 2 0x80 0xbf))
+        (pick t₇ (Some (Tail 2 0x80 0x8f)) None)))))))
     go true t₂ t₃ t₄ t₅ t₆ t₇ = (omega arith, omega arith, omega arith)
     go false true t₃ t₄ t₅ t₆ t₇ = (omega arith, omega arith, omega arith)
     go false false true t₄ t₅ t₆ t₇ = (omega arith, omega arith, omega arith)
@@ -86,13 +86,13 @@ step-opens : (plain : ℕ → Bool) (due : Due) (b : ℕ) → Opens (step plain 
 unfolding step
 step-opens plain Start b = go (ltb b 0x80) (plain b)
   where
-    go : (t u : Bool) → Opens (pick t (pick u (some Start) none) (lead b))
+    go : (t u : Bool) → Opens (pick t (pick u (Some Start) None) (lead b))
     go true true = tt
     go true false = tt
     go false u = lead-opens b
 step-opens plain (Tail more low high) b = go (within low high b)
   where
-    go : (t : Bool) → Opens (pick t (some (tails more)) none)
+    go : (t : Bool) → Opens (pick t (Some (tails more)) None)
     go true = tails-open more
     go false = tt
 
@@ -101,14 +101,14 @@ step-opens plain (Tail more low high) b = go (within low high b)
 pub record TextEnding (plain : ℕ → Bool) (due : Due) (p : List ℕ) : Type 0 where
   pub ending : List ℕ
   pub bytes : all tail_byte ending ≡ true
-  pub sound : text_fault plain due (p ++ ending) ≡ none
+  pub sound : text_fault plain due (p ++ ending) ≡ None
 
 all-tails : (n : ℕ) → all tail_byte (replicate n 0x80) ≡ true
 unfolding all
 all-tails zero = refl
 all-tails (suc n) = all-tails n
 
-tails_end : (plain : ℕ → Bool) (n : ℕ) → text_fault plain (tails n) (replicate n 0x80) ≡ none
+tails_end : (plain : ℕ → Bool) (n : ℕ) → text_fault plain (tails n) (replicate n 0x80) ≡ None
 unfolding text_fault step
 tails_end plain zero = refl
 tails_end plain (suc n) = rw (tails_end plain n)
@@ -123,17 +123,17 @@ finish-end plain (Tail more low high) h =
       sound = rw (le-leb low low (omega arith), le-leb low high h.1, tails_end plain more);
     }
 
-pub text-ending : (plain : ℕ → Bool) (due : Due) (p v : List ℕ) → Open due → text_fault plain due (p ++ v) ≡ some (length p) → TextEnding plain due p
+pub text-ending : (plain : ℕ → Bool) (due : Due) (p v : List ℕ) → Open due → text_fault plain due (p ++ v) ≡ Some (length p) → TextEnding plain due p
 text-ending plain due [] v h e = finish-end plain due h
 text-ending plain due (b ∷ p) v h e = go (step plain due b) refl (step-opens plain due b) (rw (fault-cons plain due b (p ++ v)) at e) (λ next. text-ending plain next p v)
   where
-    at : (o : Option ℕ) → map suc o ≡ some (suc (length p)) → o ≡ some (length p)
-    at none e = no (cc)
-    at (some m) e = cc
+    at : (o : Option ℕ) → option_map suc o ≡ Some (suc (length p)) → o ≡ Some (length p)
+    at None e = no (cc)
+    at (Some m) e = cc
 
-    go : (o : Option Due) → step plain due b ≡ o → Opens o → maybe o (some 0) (λ next. map suc (text_fault plain next (p ++ v))) ≡ some (suc (length p))
-        → ((next : Due) → Open next → text_fault plain next (p ++ v) ≡ some (length p) → TextEnding plain next p) → TextEnding plain due (b ∷ p)
-    go none i h e r = no (cc)
-    go (some next) i h e r =
+    go : (o : Option Due) → step plain due b ≡ o → Opens o → maybe o (Some 0) (λ next. option_map suc (text_fault plain next (p ++ v))) ≡ Some (suc (length p))
+        → ((next : Due) → Open next → text_fault plain next (p ++ v) ≡ Some (length p) → TextEnding plain next p) → TextEnding plain due (b ∷ p)
+    go None i h e r = no (cc)
+    go (Some next) i h e r =
         let t = r next h (at (text_fault plain next (p ++ v)) e) in
         record { ending = t.ending; bytes = t.bytes; sound = rw (fault-cons plain due b (p ++ t.ending), i, t.sound) }

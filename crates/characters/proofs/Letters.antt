@@ -1,7 +1,7 @@
 -- Tests of single bytes in fewer steps than their definitions have. Assumes nothing.
+use Rattle.std.specs.Prelude.{Some}
 use mathlib.Core.Path.{◌≡◌, refl}
 use mathlib.Core.Bool.{true, ◌||◌}
-use mathlib.Core.Option.{some}
 use Prim.Native.Nat.{ℕ, ◌<◌}
 use Prim.Native.Char.{code}
 use native.Mathlib.Omega.{arith}
@@ -20,7 +20,7 @@ unfolding key_byte
 key-folded b h = at-bytes key_byte (λ b. within (code "a") (code "z") (bit_or b 32) || within (code "0") (code "9") b || eqb b (code "-")) refl b h
 
 -- the first byte of most characters of three bytes
-pub lead-middle : (b : ℕ) → within 0xe1 0xec b ≡ true → lead b ≡ some (Tail 1 0x80 0xbf)
+pub lead-middle : (b : ℕ) → within 0xe1 0xec b ≡ true → lead b ≡ Some (Tail 1 0x80 0xbf)
 unfolding lead
 lead-middle b e =
     let w = and_both (leb 0xe1 b) (leb b 0xec) e in

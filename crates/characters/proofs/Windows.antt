@@ -1,9 +1,9 @@
 -- Bytes of which each may follow the three before it are the text of a value, if no character is left unfinished. Assumes nothing.
+use Rattle.std.specs.Prelude.{Some, None}
 use mathlib.Core.Path.{◌≡◌, refl, sym, ap, ◌∙◌}
 use Prim.Native.Nat.{ℕ, zero, suc, ◌+◌, ◌-◌, ◌≤◌, ◌<◌}
 use native.Mathlib.Omega.{arith}
 use mathlib.Core.Bool.{Bool, true, false, not, ◌&&◌, ◌||◌, false≢true}
-use mathlib.Core.Option.{none, some}
 use mathlib.Core.List.{List, [], ◌∷◌}
 use lib.ListN.{length, take, drop, get_or, length-drop}
 use lib.Seq.{drop-drop, take_all}
@@ -31,9 +31,9 @@ value-byte b l h = rw (le-leb 32 b l, le-leb b 126 (omega arith))
 pub data Ready (r q p : ℕ) : Due → Type 0 where
   between : r < 240 → q < 224 → p < 194 → Ready r q p Start
   two-1 : 194 ≤ p → q < 240 → p < 224 → Ready r q p (Tail 0 128 191)
-  three-1 : {low high : ℕ} → 224 ≤ p → p < 240 → q < 240 → lead p ≡ some (Tail 1 low high) → Ready r q p (Tail 1 low high)
+  three-1 : {low high : ℕ} → 224 ≤ p → p < 240 → q < 240 → lead p ≡ Some (Tail 1 low high) → Ready r q p (Tail 1 low high)
   three-2 : 224 ≤ q → q < 240 → r < 240 → p < 194 → Ready r q p (Tail 0 128 191)
-  four-1 : {low high : ℕ} → 240 ≤ p → p ≤ 244 → lead p ≡ some (Tail 2 low high) → Ready r q p (Tail 2 low high)
+  four-1 : {low high : ℕ} → 240 ≤ p → p ≤ 244 → lead p ≡ Some (Tail 2 low high) → Ready r q p (Tail 2 low high)
   four-2 : 240 ≤ q → p < 194 → Ready r q p (Tail 1 128 191)
   four-3 : 240 ≤ r → q < 194 → p < 194 → Ready r q p (Tail 0 128 191)
 
@@ -123,51 +123,51 @@ inside : (low high b : ℕ) → low ≤ b → b ≤ high → within low high b �
 inside low high b l h = rw (le-leb low b l, le-leb b high h)
 
 -- the first byte of a character of two, three or four bytes
-lead-two : (b : ℕ) → 194 ≤ b → b < 224 → lead b ≡ some (Tail 0 128 191)
+lead-two : (b : ℕ) → 194 ≤ b → b < 224 → lead b ≡ Some (Tail 0 128 191)
 unfolding lead
 lead-two b l h = rw (inside 194 223 b l (omega arith))
 
-lead-three : (b : ℕ) → 224 ≤ b → b < 240 → (b ≡ 224 → ⊥) → (b ≡ 237 → ⊥) → lead b ≡ some (Tail 1 128 191)
+lead-three : (b : ℕ) → 224 ≤ b → b < 240 → (b ≡ 224 → ⊥) → (b ≡ 237 → ⊥) → lead b ≡ Some (Tail 1 128 191)
 unfolding lead
 lead-three b l h n m = rw (le-leb 194 b (omega arith), lt-leb b 223 (omega arith), ne_eqb b 224 n, ne_eqb b 237 m, inside 225 239 b (omega arith) (omega arith))
 
-lead-four : (b : ℕ) → 240 < b → b < 244 → lead b ≡ some (Tail 2 128 191)
+lead-four : (b : ℕ) → 240 < b → b < 244 → lead b ≡ Some (Tail 2 128 191)
 unfolding lead
 lead-four b l h =
     rw (le-leb 194 b (omega arith), lt-leb b 223 (omega arith), ne_eqb b 224 (λ e. omega arith), ne_eqb b 237 (λ e. omega arith), le-leb 225 b (omega arith), lt-leb b 239 (omega arith), ne_eqb b 240 (λ e. omega arith), inside 241 243 b (omega arith) (omega arith))
 
 -- the first bytes after which the range is narrower
-lead-e0 : lead 224 ≡ some (Tail 1 160 191)
+lead-e0 : lead 224 ≡ Some (Tail 1 160 191)
 unfolding lead
 lead-e0 = refl
 
-lead-ed : lead 237 ≡ some (Tail 1 128 159)
+lead-ed : lead 237 ≡ Some (Tail 1 128 159)
 unfolding lead
 lead-ed = refl
 
-lead-f0 : lead 240 ≡ some (Tail 2 144 191)
+lead-f0 : lead 240 ≡ Some (Tail 2 144 191)
 unfolding lead
 lead-f0 = refl
 
-lead-f4 : lead 244 ≡ some (Tail 2 128 143)
+lead-f4 : lead 244 ≡ Some (Tail 2 128 143)
 unfolding lead
 lead-f4 = refl
 
 -- a byte in the range that a first byte asks for
-asked : (p : ℕ) {more low high : ℕ} (low' high' b : ℕ) → lead p ≡ some (Tail more low high) → lead p ≡ some (Tail more low' high') → low' ≤ b → b ≤ high' → within low high b ≡ true
+asked : (p : ℕ) {more low high : ℕ} (low' high' b : ℕ) → lead p ≡ Some (Tail more low high) → lead p ≡ Some (Tail more low' high') → low' ≤ b → b ≤ high' → within low high b ≡ true
 asked p {more} {low} {high} low' high' b e f l h =
-    let z : some (Tail more low high) ≡ some (Tail more low' high') = sym e ∙ f in
+    let z : Some (Tail more low high) ≡ Some (Tail more low' high') = sym e ∙ f in
     let x : low ≡ low' = cc in
     let y : high ≡ high' = cc in
     rw (x, y) (inside low' high' b l h)
 
-three-inside : (p b low high : ℕ) → 224 ≤ p → p < 240 → lead p ≡ some (Tail 1 low high) → Goes p b → within low high b ≡ true
+three-inside : (p b low high : ℕ) → 224 ≤ p → p < 240 → lead p ≡ Some (Tail 1 low high) → Goes p b → within low high b ≡ true
 three-inside p b low high l h e g =
     by-test (eqb p 224) (λ t. let q = eqb-true p 224 t in asked p 160 191 b e (ap lead q ∙ lead-e0) (g.after-e0 q) g.most)
     (λ n. by-test (eqb p 237) (λ t. let q = eqb-true p 237 t in asked p 128 159 b e (ap lead q ∙ lead-ed) g.least (g.after-ed q))
     (λ m. asked p 128 191 b e (lead-three p l h (eqb-false p 224 n) (eqb-false p 237 m)) g.least g.most))
 
-four-inside : (p b low high : ℕ) → 240 ≤ p → p ≤ 244 → lead p ≡ some (Tail 2 low high) → Goes p b → within low high b ≡ true
+four-inside : (p b low high : ℕ) → 240 ≤ p → p ≤ 244 → lead p ≡ Some (Tail 2 low high) → Goes p b → within low high b ≡ true
 four-inside p b low high l h e g =
     by-test (eqb p 240) (λ t. let q = eqb-true p 240 t in asked p 144 191 b e (ap lead q ∙ lead-f0) (g.after-f0 q) g.most)
     (λ n. by-test (eqb p 244) (λ t. let q = eqb-true p 244 t in asked p 128 143 b e (ap lead q ∙ lead-f4) g.least (g.after-f4 q))
@@ -178,7 +178,7 @@ four-inside p b low high l h e g =
 -- what is due after it
 pub record Then (q p b : ℕ) (d : Due) : Type 0 where
   pub next : Due
-  pub is : step value_byte d b ≡ some next
+  pub is : step value_byte d b ≡ Some next
   pub ready : Ready q p b next
 
 -- a byte that begins a character
@@ -257,7 +257,7 @@ one_more r q p b (four-3 l hq hp) e =
 -- ---- all bytes
 
 -- nothing is due at the end
-finished : (r q p : ℕ) {d : Due} → Ready r q p d → due_after r q p ≡ false → text_fault value_byte d [] ≡ none
+finished : (r q p : ℕ) {d : Due} → Ready r q p d → due_after r q p ≡ false → text_fault value_byte d [] ≡ None
 unfolding text_fault
 finished r q p (between hr hq hp) z = refl
 finished r q p (two-1 l hq hp) z = absurd (false≢true (sym z ∙ due-p r q p l))
@@ -272,7 +272,7 @@ pub followed-join : (s : List ℕ) (a b c d : ℕ) → FollowedTo s a b → Foll
 followed-join s a b c d f g h k l m = by-test (ltb k b) (λ t. f k l (ltb-true k b t)) (λ n. let o = ltb-false k b n in g k (omega arith) m)
 
 module _ (s : List ℕ) (at : ℕ) (w : SoundFrom s at) where
-  run : (n k : ℕ) {d : Due} → at ≤ k → k + 3 + n ≡ length s → Ready (get_or s k 0) (get_or s (k + 1) 0) (get_or s (k + 2) 0) d → text_fault value_byte d (drop (k + 3) s) ≡ none
+  run : (n k : ℕ) {d : Due} → at ≤ k → k + 3 + n ≡ length s → Ready (get_or s k 0) (get_or s (k + 1) 0) (get_or s (k + 2) 0) d → text_fault value_byte d (drop (k + 3) s) ≡ None
   run zero k {d} h e y =
       let a : length s - 3 ≡ k = omega arith in
       let b : length s - 2 ≡ k + 1 = omega arith in
@@ -283,11 +283,11 @@ module _ (s : List ℕ) (at : ℕ) (w : SoundFrom s at) where
       let a : k + 1 + 1 ≡ k + 2 = omega arith in
       let b : k + 1 + 2 ≡ k + 3 = omega arith in
       let c : k + 1 + 3 ≡ k + 3 + 1 = omega arith in
-      let ih : text_fault value_byte t.next (drop (k + 1 + 3) s) ≡ none = run n (k + 1) (omega arith) (omega arith) (rw (a, b) t.ready) in
+      let ih : text_fault value_byte t.next (drop (k + 1 + 3) s) ≡ None = run n (k + 1) (omega arith) (omega arith) (rw (a, b) t.ready) in
       rw (here s (k + 3) (omega arith), fault-cons value_byte d (get_or s (k + 3) 0) (drop (k + 3 + 1) s), t.is, ← c, ih)
 
   -- the bytes behind the first three are a value's text, where nothing is due after these
-  pub followed-sound : at + 3 ≤ length s → due_after (get_or s at 0) (get_or s (at + 1) 0) (get_or s (at + 2) 0) ≡ false → text_fault value_byte Start (drop (at + 3) s) ≡ none
+  pub followed-sound : at + 3 ≤ length s → due_after (get_or s at 0) (get_or s (at + 1) 0) (get_or s (at + 2) 0) ≡ false → text_fault value_byte Start (drop (at + 3) s) ≡ None
   followed-sound h e =
       let b = due-not (get_or s at 0) (get_or s (at + 1) 0) (get_or s (at + 2) 0) e in
       run (length s - (at + 3)) at (omega arith) (omega arith) (between b.0 b.1 b.2)
@@ -305,7 +305,7 @@ pub sound-less : (s : List ℕ) (a b : ℕ) → a ≤ b → SoundFrom s a → So
 sound-less s a b h w = record { all_follow = λ k l m. w.all_follow k (omega arith) m; none_due = w.none_due }
 
 -- plain bytes in front change nothing
-pub plain-front : (n : ℕ) (s : List ℕ) → all value_byte (take n s) ≡ true → text_fault value_byte Start (drop n s) ≡ none → text_fault value_byte Start s ≡ none
+pub plain-front : (n : ℕ) (s : List ℕ) → all value_byte (take n s) ≡ true → text_fault value_byte Start (drop n s) ≡ None → text_fault value_byte Start s ≡ None
 unfolding all
 plain-front zero s e f = f
 plain-front (suc n) [] e f = f
@@ -314,7 +314,7 @@ plain-front (suc n) (b ∷ s) e f =
     rw (fault-cons value_byte Start b s, step-plain value_byte b q.0 q.0, plain-front n s q.1 f)
 
 -- plain bytes to the end, as the last sixteen show
-pub plain-last : (s : List ℕ) (k : ℕ) → 16 ≤ length s → k ≤ length s → length s ≤ k + 16 → all value_byte (take 16 (drop (length s - 16) s)) ≡ true → text_fault value_byte Start (drop k s) ≡ none
+pub plain-last : (s : List ℕ) (k : ℕ) → 16 ≤ length s → k ≤ length s → length s ≤ k + 16 → all value_byte (take 16 (drop (length s - 16) s)) ≡ true → text_fault value_byte Start (drop k s) ≡ None
 unfolding text_fault
 plain-last s k h l m e =
     let d = length-drop (length s - 16) s in
@@ -324,7 +324,7 @@ plain-last s k h l m e =
 
 -- bytes that may follow from a place on
 pub rest-sound : (s : List ℕ) (k : ℕ) → 3 ≤ k → k ≤ length s → due_after (get_or s (k - 3) 0) (get_or s (k - 2) 0) (get_or s (k - 1) 0) ≡ false → SoundFrom s (k - 3)
-    → text_fault value_byte Start (drop k s) ≡ none
+    → text_fault value_byte Start (drop k s) ≡ None
 rest-sound s k h l d w =
     let a : k - 3 + 1 ≡ k - 2 = omega arith in
     let b : k - 3 + 2 ≡ k - 1 = omega arith in

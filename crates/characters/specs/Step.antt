@@ -1,6 +1,5 @@
 -- What the inner functions of this crate answer, by the definitions of UTF-8. Assumes nothing.
-use Rattle.std.specs.Prelude.{ℕ, zero, suc, ◌+◌, List, length, get_or, ltb}
-use Rattle.std.proofs.Math.Option.{Option, none, some}
+use Rattle.std.specs.Prelude.{ℕ, zero, suc, ◌+◌, List, length, get_or, ltb, Option, Some, None}
 use Rattle.base.specs.Choice.{pick}
 use Rattle.characters.specs.Class.{within}
 use Rattle.characters.specs.Utf8.{lead}
@@ -15,13 +14,13 @@ use Rattle.characters.specs.declared.Scan.TheVariants as scan
 
 -- what is due next, if anything
 abbrev pub due_of : Next → Option Due
-due_of (next.Is d) = some d
-due_of next.Stop = none
+due_of (next.Is d) = Some d
+due_of next.Stop = None
 
 -- where a scan found a fault, if anywhere
 abbrev pub fault_of : Scan → Option ℕ
-fault_of scan.Sound = none
-fault_of (scan.Fault n) = some n
+fault_of scan.Sound = None
+fault_of (scan.Fault n) = Some n
 
 -- a tail byte at a place: none, one that does not fit, or what comes after it
 abbrev pub tail_at : List ℕ → ℕ → ℕ → ℕ → Rest → Rest
@@ -34,9 +33,9 @@ rest_at s i (suc more) low high = let after : Rest = rest_at s (i + 1) more 0x80
 
 -- a character by what its first byte asks for
 abbrev pub begun_at : List ℕ → ℕ → Option Due → Rest
-begun_at s i none = rest.Fault i
-begun_at s i (some due.Start) = rest.End (i + 1)
-begun_at s i (some (due.Tail more low high)) = rest_at s (i + 1) more low high
+begun_at s i None = rest.Fault i
+begun_at s i (Some due.Start) = rest.End (i + 1)
+begun_at s i (Some (due.Tail more low high)) = rest_at s (i + 1) more low high
 
 -- the character over 0x7F at a place
 unfoldable pub character_at : List ℕ → ℕ → Rest

@@ -1,6 +1,5 @@
 // UTF-8 (RFC 3629), a character at a time.
-ghost use Rattle.std.specs.Prelude.{◌≡◌, true, ◌+◌, ◌<◌, ◌≤◌, length, drop};
-ghost use Rattle.std.proofs.Math.Option.{none};
+ghost use Rattle.std.specs.Prelude.{◌≡◌, true, ◌+◌, ◌<◌, ◌≤◌, length, drop, None};
 ghost use Rattle.characters.specs.Class.{value_byte, content_byte};
 ghost use Rattle.characters.specs.Utf8 as spec;
 ghost use Rattle.characters.specs.Step.{due_of, fault_of, rest_at, character_at};
@@ -195,7 +194,7 @@ fn sound_rest(s: &[u8], at: usize) -> bool
 // Whether the bytes from a place on surely are a value's text, by the three bytes before each. It promises nothing where it says no.
 fn sound_from(s: &[u8], k: usize) -> bool
     requires { k ≤ length s.now }
-    ensures { result ≡ true → spec.text_fault value_byte Due.Start (drop k s.now) ≡ none }
+    ensures { result ≡ true → spec.text_fault value_byte Due.Start (drop k s.now) ≡ None }
 {
     if s.len() < 19 {
         return false;
@@ -215,7 +214,7 @@ fn sound_from(s: &[u8], k: usize) -> bool
 // The same with ASCII bytes passed first: the fast way through all but short lines.
 fn is_surely_value(s: &[u8], from: usize) -> bool
     requires { from ≤ length s.now }
-    ensures { result ≡ true → spec.text_fault value_byte Due.Start (drop from s.now) ≡ none }
+    ensures { result ≡ true → spec.text_fault value_byte Due.Start (drop from s.now) ≡ None }
 {
     let mut k = from;
     while 16 <= s.len() - k {

@@ -1,9 +1,9 @@
 -- The walk through the rows that keeps the best row so far. Assumes nothing.
+use Rattle.std.specs.Prelude.{Option, Some, None}
 use mathlib.Core.Path.{◌≡◌, refl, sym, ◌∙◌}
 use Prim.Native.Nat.{ℕ, suc, ◌+◌, ◌≤◌, ◌<◌}
 use native.Mathlib.Omega.{arith}
 use mathlib.Core.Bool.{Bool, true, false, ◌&&◌}
-use mathlib.Core.Option.{Option, none, some}
 use mathlib.Core.List.{List, [], ◌∷◌}
 use lib.ListN.{length, take, drop}
 use lib.Dec.{eqb}
@@ -45,11 +45,11 @@ place-title group h r line (Name key n) (k ∷ ks) i = rw (i k, place-title grou
     by : (t : Bool) → pick (t && same k x) 0 (suc (pick t (rank_in ks x) (length ks))) ≡ pick t (pick (same k x) 0 (suc (rank_in ks x))) (suc (length ks))
     by true = refl
     by false = refl
-place-title group h r line (NoName n) ks i = none ks ∙ by (same group h)
+place-title group h r line (NoName n) ks i = None ks ∙ by (same group h)
   where
-    none : (ks : List (List ℕ)) → place_of group r ks ≡ length ks
-    none [] = refl
-    none (k ∷ ks) = rw (i k, none ks)
+    None : (ks : List (List ℕ)) → place_of group r ks ≡ length ks
+    None [] = refl
+    None (k ∷ ks) = rw (i k, None ks)
 
     by : (t : Bool) → length ks ≡ pick t (length ks) (length ks)
     by true = refl
@@ -59,7 +59,7 @@ place-title group h r line (NoName n) ks i = none ks ∙ by (same group h)
 
 -- what is told at the end: a better row of those that are left, else the best so far
 abbrev pub best_of : List ℕ → List (List ℕ) → ℕ → Found → List Row → Found
-best_of group ks best kept rs = maybe (first_key rs group (take best ks)) kept (λ r. found_of (some r))
+best_of group ks best kept rs = maybe (first_key rs group (take best ks)) kept (λ r. found_of (Some r))
 
 -- the rows from p on, and the best row before them, have the answer
 pub record Best (s group : List ℕ) (ks : List (List ℕ)) (p n : ℕ) (inside : Bool) (best : ℕ) (kept : Found) : Type 0 where
@@ -120,7 +120,7 @@ module _ (s group : List ℕ) (ks : List (List ℕ)) {p n : ℕ} {inside : Bool}
         → Best s group ks (e + 1) (n + 1) t r (found.Row n p e (p + v))
     best-better j {r} u k {v} x =
         let z : place_of group row ks ≡ r = place-row ∙ rw (sym i ∙ j, u) in
-        let o : found_of (some row) ≡ found.Row n p e (p + v) = seek-told w.walk.seek h q ∙ rw x in
+        let o : found_of (Some row) ≡ found.Row n p e (p + v) = seek-told w.walk.seek h q ∙ rw x in
         rw i (record {
           walk =
               in-next w.walk h q (best_of group ks r (found.Row n p e (p + v)))
@@ -128,6 +128,6 @@ module _ (s group : List ℕ) (ks : List (List ℕ)) {p n : ℕ} {inside : Bool}
           most = omega (arith, w.most);
         })
       where
-        told : (o : Option Row) → maybe (maybe o (some row) some) kept (λ x. found_of (some x)) ≡ maybe o (found_of (some row)) (λ x. found_of (some x))
-        told none = refl
-        told (some x) = refl
+        told : (o : Option Row) → maybe (maybe o (Some row) Some) kept (λ x. found_of (Some x)) ≡ maybe o (found_of (Some row)) (λ x. found_of (Some x))
+        told None = refl
+        told (Some x) = refl

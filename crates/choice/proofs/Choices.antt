@@ -1,9 +1,9 @@
 -- The first present of some keys, row by row, and the keys that a locale chooses among. Assumes nothing.
+use Rattle.std.specs.Prelude.{Option, Some, None}
 use mathlib.Core.Path.{◌≡◌, refl, sym, ◌∙◌}
 use Prim.Native.Nat.{ℕ, zero, suc, ◌≤◌, ◌<◌}
 use native.Mathlib.Omega.{arith}
 use mathlib.Core.Bool.{Bool, true, false}
-use mathlib.Core.Option.{Option, none, some}
 use mathlib.Core.List.{List, [], ◌∷◌, ◌++◌, append-nil, map}
 use lib.ListN.{length, take}
 use lib.Dec.{eqb, eqb-suc-zero}
@@ -16,24 +16,24 @@ use Rattle.choice.specs.Step.{all_keys}
 
 -- ---- the first of some options
 
-or-none : {A : Type 0} (o : Option A) → maybe o none some ≡ o
-or-none none = refl
-or-none (some a) = refl
+or-none : {A : Type 0} (o : Option A) → maybe o None Some ≡ o
+or-none None = refl
+or-none (Some a) = refl
 
-or_later : {A : Type 0} (o p q : Option A) → maybe o (maybe p q some) some ≡ maybe (maybe o p some) q some
-or_later none p q = refl
-or_later (some a) p q = refl
+or_later : {A : Type 0} (o p q : Option A) → maybe o (maybe p q Some) Some ≡ maybe (maybe o p Some) q Some
+or_later None p q = refl
+or_later (Some a) p q = refl
 
 -- of two that are asked twice
-twice : {A : Type 0} (o p q : Option A) → maybe o (maybe p (maybe o (maybe p q some) some) some) some ≡ maybe o (maybe p q some) some
-twice (some a) p q = refl
-twice none (some a) q = refl
-twice none none q = refl
+twice : {A : Type 0} (o p q : Option A) → maybe o (maybe p (maybe o (maybe p q Some) Some) Some) Some ≡ maybe o (maybe p q Some) Some
+twice (Some a) p q = refl
+twice None (Some a) q = refl
+twice None None q = refl
 
-each_twice : {A : Type 0} (o p q : Option A) → maybe o (maybe o (maybe p (maybe p q some) some) some) some ≡ maybe o (maybe p q some) some
-each_twice (some a) p q = refl
-each_twice none (some a) q = refl
-each_twice none none q = refl
+each_twice : {A : Type 0} (o p q : Option A) → maybe o (maybe o (maybe p (maybe p q Some) Some) Some) Some ≡ maybe o (maybe p q Some) Some
+each_twice (Some a) p q = refl
+each_twice None (Some a) q = refl
+each_twice None None q = refl
 
 -- ---- the first present key
 
@@ -43,7 +43,7 @@ module _ (rs : List Row) (group : List ℕ) where
   first_one k = or-none (find_stripped rs (Key group k))
 
   -- of keys before others: the first of these, else the first of the others
-  pub first-append : (ks ls : List (List ℕ)) → first_key rs group (ks ++ ls) ≡ maybe (first_key rs group ks) (first_key rs group ls) some
+  pub first-append : (ks ls : List (List ℕ)) → first_key rs group (ks ++ ls) ≡ maybe (first_key rs group ks) (first_key rs group ls) Some
   unfolding first_key
   first-append [] ls = refl
   first-append (k ∷ ks) ls = rw (first-append ks ls) (or_later (find_stripped rs (Key group k)) (first_key rs group ks) (first_key rs group ls))
@@ -51,7 +51,7 @@ module _ (rs : List Row) (group : List ℕ) where
 -- ---- one row more
 
 -- among no rows there is none
-pub first-nowhere : (group : List ℕ) (ks : List (List ℕ)) → first_key [] group ks ≡ none
+pub first-nowhere : (group : List ℕ) (ks : List (List ℕ)) → first_key [] group ks ≡ None
 unfolding first_key find_stripped first
 first-nowhere group [] = refl
 first-nowhere group (k ∷ ks) = first-nowhere group ks
@@ -65,7 +65,7 @@ module _ (group : List ℕ) (r : Row) where
   module _ (rs : List Row) where
     -- it has one of the first n keys: only a better one behind it is taken before it
     pub better : (ks : List (List ℕ)) (n : ℕ) → place_of ks < n → n ≤ length ks
-        → first_key (r ∷ rs) group (take n ks) ≡ maybe (first_key rs group (take (place_of ks) ks)) (some r) some
+        → first_key (r ∷ rs) group (take n ks) ≡ maybe (first_key rs group (take (place_of ks) ks)) (Some r) Some
     unfolding first_key find_stripped first place_of
     better [] n h i = absurd (omega arith)
     better (k ∷ ks) zero h i = absurd (omega arith)
@@ -75,11 +75,11 @@ module _ (group : List ℕ) (r : Row) where
         o = find_stripped rs (Key group k)
 
         go : (t : Bool) → pick t 0 (suc (place_of ks)) < suc n
-            → (place_of ks < n → first_key (r ∷ rs) group (take n ks) ≡ maybe (first_key rs group (take (place_of ks) ks)) (some r) some)
-            → maybe (pick t (some r) o) (first_key (r ∷ rs) group (take n ks)) some
-            ≡ maybe (first_key rs group (take (pick t 0 (suc (place_of ks))) (k ∷ ks))) (some r) some
+            → (place_of ks < n → first_key (r ∷ rs) group (take n ks) ≡ maybe (first_key rs group (take (place_of ks) ks)) (Some r) Some)
+            → maybe (pick t (Some r) o) (first_key (r ∷ rs) group (take n ks)) Some
+            ≡ maybe (first_key rs group (take (pick t 0 (suc (place_of ks))) (k ∷ ks))) (Some r) Some
         go true h w = refl
-        go false h w = rw (w (omega arith)) (or_later o (first_key rs group (take (place_of ks) ks)) (some r))
+        go false h w = rw (w (omega arith)) (or_later o (first_key rs group (take (place_of ks) ks)) (Some r))
 
     -- it has none of them
     pub no-better : (ks : List (List ℕ)) (n : ℕ) → n ≤ place_of ks → first_key (r ∷ rs) group (take n ks) ≡ first_key rs group (take n ks)
@@ -93,7 +93,7 @@ module _ (group : List ℕ) (r : Row) where
         o = find_stripped rs (Key group k)
 
         go : (t : Bool) → suc n ≤ pick t 0 (suc (place_of ks)) → (n ≤ place_of ks → first_key (r ∷ rs) group (take n ks) ≡ first_key rs group (take n ks))
-            → maybe (pick t (some r) o) (first_key (r ∷ rs) group (take n ks)) some ≡ maybe o (first_key rs group (take n ks)) some
+            → maybe (pick t (Some r) o) (first_key (r ∷ rs) group (take n ks)) Some ≡ maybe o (first_key rs group (take n ks)) Some
         go true h w = absurd (omega arith)
         go false h w = rw (w (omega arith))
 
@@ -113,16 +113,16 @@ module _ (rs : List Row) (group key : List ℕ) where
   chosen-other s e = rw e (by (lang_of s) (country_of s) (modifier_of s))
     where
       last : Option Row
-      last = maybe (find_stripped rs (Key group key)) none some
+      last = maybe (find_stripped rs (Key group key)) None Some
 
       by : (l c m : List ℕ)
           → first_key rs group (map (postfixed key) (pick (eqb (length c) 0) [] (only_with m (l ++ c ++ m)) ++ only_with c (l ++ c) ++ only_with m (l ++ m) ++ (l ∷ [])) ++ (key ∷ []))
           ≡ first_key rs group (map (postfixed key) ((l ++ c ++ m) ∷ (l ++ c) ∷ (l ++ m) ∷ l ∷ []) ++ (key ∷ []))
       by l [] [] = rw (append-nil l, append-nil l) (sym (twice (at l) (at l) last ∙ each-one (at l)))
         where
-          each-one : (o : Option Row) → maybe o (maybe o last some) some ≡ maybe o last some
-          each-one none = refl
-          each-one (some a) = refl
+          each-one : (o : Option Row) → maybe o (maybe o last Some) Some ≡ maybe o last Some
+          each-one None = refl
+          each-one (Some a) = refl
       by l [] (b ∷ m) = rw (append-nil l) (sym (twice (at (l ++ (b ∷ m))) (at l) last))
       by l (b ∷ c) [] = rw (eqb-suc-zero (length c), append-nil (l ++ (b ∷ c)), append-nil l) (sym (each_twice (at (l ++ (b ∷ c))) (at l) last))
       by l (b ∷ c) (d ∷ m) = rw (eqb-suc-zero (length c))

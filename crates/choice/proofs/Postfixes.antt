@@ -1,9 +1,9 @@
 -- Postfixes by the parts of their locales, and the rank of one among those that a locale asks for. Assumes nothing.
+use Rattle.std.specs.Prelude.{Option, Some, None}
 use mathlib.Core.Path.{◌≡◌, refl, sym, ap, ◌∙◌}
 use Prim.Native.Nat.{ℕ, suc, ◌+◌, ◌-◌, ◌*◌, ◌≤◌, ◌<◌}
 use native.Mathlib.Omega.{arith}
 use mathlib.Core.Bool.{Bool, true, false, ◌&&◌, ◌||◌, false≢true}
-use mathlib.Core.Option.{Option, none, some}
 use mathlib.Core.List.{List, [], ◌∷◌, ◌++◌, append_assoc}
 use lib.Seq.{take_all, drop-drop}
 use lib.ListN.{length, take, drop, length-drop, take-append-drop}
@@ -45,8 +45,8 @@ form-ends s e = go (eqb (length s) 0) refl (empty_part (parts s)) e
   where
     go : (t : Bool) → eqb (length s) 0 ≡ t → (o : Option ℕ) → (t || maybe o (eqb (locale_end (parts s)) (length s)) (λ n. false)) ≡ true → locale_end (parts s) ≡ length s
     go true i o e = omega (arith, parts_within s, eqb-true (length s) 0 i)
-    go false i none e = eqb-true _ _ e
-    go false i (some n) e = absurd (false≢true e)
+    go false i None e = eqb-true _ _ e
+    go false i (Some n) e = absurd (false≢true e)
 
 -- its three parts
 pub form-parted : (s : List ℕ) → locale_form s ≡ true → Parted (lang_of s) (country_of s) (modifier_of s)

@@ -1,9 +1,9 @@
 -- The check of a word and of a command, way by way. Assumes nothing.
+use Rattle.std.specs.Prelude.{Option, Some, None, Ok, Err}
 use mathlib.Core.Path.{◌≡◌, refl, ap, ◌∙◌}
 use Prim.Native.Nat.{ℕ, ◌+◌, ◌≤◌, ◌<◌}
 use native.Mathlib.Omega.{arith}
 use mathlib.Core.Bool.{Bool, true, false, ◌||◌, or-true, or-false}
-use mathlib.Core.Option.{Option, none, some}
 use mathlib.Core.List.{List, [], ◌∷◌, map}
 use lib.ListN.{length, take, drop, get_or}
 use lib.Dec.{eqb}
@@ -11,7 +11,7 @@ use Rattle.base.specs.Lists.{any, part}
 use Rattle.base.proofs.Tests.{no}
 use Rattle.fault.specs.declared.Fault.{Fault}
 use Rattle.fault.specs.declared.Fault.TheVariants.{BadExec}
-use Rattle.fault.specs.Answer.{Answer, given, refused, ◌>>=◌, unless, then}
+use Rattle.fault.specs.Answer.{Answer, ◌>>=◌, unless, then}
 use Rattle.command.specs.Words.{Word, words, inside_length, word_length}
 use Rattle.command.specs.Command.{Argument, Files, Icon, Text, argument_of, inside, pieces_of, pieces_fault, unfit, quoted_fault, word_fault, takes_files, has_piece, is_item, is_name, is_icon, words_fault, arguments_in, read_command}
 use Rattle.command.specs.Step.{see_piece, see_pieces, see_argument, see_arguments, unless_fault, unseen, codes_in}
@@ -21,13 +21,13 @@ use Rattle.command.specs.declared.Seen.{Seen}
 use Rattle.command.proofs.Parting.{words_at, words-done, words-space, words-word, word-ends}
 
 -- what an answer says of the fault
-pub unless-given : (o : Option Fault) (s : Seen) {k : Seen} → given k ≡ unless_fault o s → (o ≡ none) × (k ≡ s)
-unless-given none s e = (refl, cc)
-unless-given (some f) s e = no (cc)
+pub unless-given : (o : Option Fault) (s : Seen) {k : Seen} → Ok k ≡ unless_fault o s → (o ≡ None) × (k ≡ s)
+unless-given None s e = (refl, cc)
+unless-given (Some f) s e = no (cc)
 
-pub unless-refused : (o : Option Fault) (s : Seen) {f : Fault} → refused f ≡ unless_fault o s → o ≡ some f
-unless-refused none s e = no (cc)
-unless-refused (some g) s e = cc
+pub unless-refused : (o : Option Fault) (s : Seen) {f : Fault} → Err f ≡ unless_fault o s → o ≡ Some f
+unless-refused None s e = no (cc)
+unless-refused (Some g) s e = cc
 
 -- ---- a quoted word
 
@@ -48,20 +48,20 @@ module _ (program taken : Bool) (start : ℕ) (word : List ℕ) (seen : Seen) {n
   abbrev within : Answer Seen
   within = unless_fault found codes
 
-  pub quoted-unfit : unfit program (length word) n ≡ true → refused (BadExec start) ≡ whole
+  pub quoted-unfit : unfit program (length word) n ≡ true → Err (BadExec start) ≡ whole
   unfolding quoted_fault
   quoted-unfit u = rw (← e, u)
 
   module _ (u : unfit program (length word) n ≡ false) where
-    pub quoted-refused : {f : Fault} → refused f ≡ within → refused f ≡ whole
+    pub quoted-refused : {f : Fault} → Err f ≡ within → Err f ≡ whole
     unfolding quoted_fault
     quoted-refused r = rw (← e, u, unless-refused found codes r)
 
-    pub quoted-sound : {k : Seen} → given k ≡ within → eqb (length word) (n + 2) ≡ true → given k ≡ whole
+    pub quoted-sound : {k : Seen} → Ok k ≡ within → eqb (length word) (n + 2) ≡ true → Ok k ≡ whole
     unfolding quoted_fault
     quoted-sound r z = let g = unless-given found codes r in rw (← e, u, g.0, z, g.1)
 
-    pub quoted-behind : {k : Seen} → given k ≡ within → eqb (length word) (n + 2) ≡ false → refused (BadExec (start + n + 2)) ≡ whole
+    pub quoted-behind : {k : Seen} → Ok k ≡ within → eqb (length word) (n + 2) ≡ false → Err (BadExec (start + n + 2)) ≡ whole
     unfolding quoted_fault
     quoted-behind r z = let g = unless-given found codes r in rw (← e, u, g.0, z)
 
@@ -125,9 +125,9 @@ pub command-answer : (s : List ℕ) → unless_fault (words_fault true false (wo
 unfolding read_command
 command-answer s = rw (codes-seen (arguments_in s)) (go (words_fault true false (words s)))
   where
-    go : (o : Option Fault) → unless_fault o (codes_in (arguments_in s)) ≡ then codes_in (unless o >>= λ _. given (arguments_in s))
-    go none = refl
-    go (some f) = refl
+    go : (o : Option Fault) → unless_fault o (codes_in (arguments_in s)) ≡ then codes_in (unless o >>= λ _. Ok (arguments_in s))
+    go None = refl
+    go (Some f) = refl
 
 -- the faults from the place on are all that can be found, and the codes there are all that were not seen
 pub record Commanding (s : List ℕ) (i : ℕ) (program : Bool) (seen : Seen) : Type 0 where
@@ -160,11 +160,11 @@ module _ {s : List ℕ} {i : ℕ} {program : Bool} {seen : Seen} (w : Commanding
     abbrev said : Answer Seen
     said = unless_fault fault known
 
-    pub commanding-refused : {f : Fault} → refused f ≡ said → refused f ≡ unless_fault (words_fault true false (words s)) (see_arguments unseen (arguments_in s))
+    pub commanding-refused : {f : Fault} → Err f ≡ said → Err f ≡ unless_fault (words_fault true false (words s)) (see_arguments unseen (arguments_in s))
     unfolding words_fault
     commanding-refused r = rw (← w.faults, words-word s i h n q, unless-refused fault known r)
 
-    pub commanding-next : {k : Seen} → given k ≡ said → Commanding s e false k
+    pub commanding-next : {k : Seen} → Ok k ≡ said → Commanding s e false k
     unfolding words_fault see_arguments
     commanding-next {k} r =
         let g = unless-given fault known r in
@@ -176,11 +176,11 @@ module _ {s : List ℕ} {i : ℕ} {program : Bool} {seen : Seen} (w : Commanding
         }
 
 pub commanding-none : {s : List ℕ} {i : ℕ} {seen : Seen} → Commanding s i true seen → length s ≤ i
-    → refused (BadExec 0) ≡ unless_fault (words_fault true false (words s)) (see_arguments unseen (arguments_in s))
+    → Err (BadExec 0) ≡ unless_fault (words_fault true false (words s)) (see_arguments unseen (arguments_in s))
 unfolding words_fault
 commanding-none {s} {i} w h = rw (← w.faults, words-done s i h)
 
 pub commanding-end : {s : List ℕ} {i : ℕ} {seen : Seen} → Commanding s i false seen → length s ≤ i
-    → given seen ≡ unless_fault (words_fault true false (words s)) (see_arguments unseen (arguments_in s))
+    → Ok seen ≡ unless_fault (words_fault true false (words s)) (see_arguments unseen (arguments_in s))
 unfolding words_fault see_arguments
 commanding-end {s} {i} w h = rw (← w.faults, ← w.codes, words-done s i h)

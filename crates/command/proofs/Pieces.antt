@@ -1,17 +1,16 @@
 -- The pieces of an argument and their faults, one after another. Assumes nothing.
+use Rattle.std.specs.Prelude.{Some, None, Ok, Err}
 use mathlib.Core.Path.{◌≡◌, refl, ap, ◌∙◌}
 use Prim.Native.Nat.{ℕ, zero, suc, ◌+◌, ◌-◌, ◌≤◌, ◌<◌}
 use native.Mathlib.Nat.{add-zero}
 use native.Mathlib.Omega.{arith}
 use mathlib.Core.Bool.{Bool, true, false, ◌||◌}
-use mathlib.Core.Option.{none, some}
 use mathlib.Core.List.{List, [], ◌∷◌}
 use lib.ListN.{length, drop, get_or}
 use lib.Seq.{drop-drop, drop-nil}
 use Rattle.base.specs.Choice.{pick, maybe}
 use Rattle.base.proofs.Scan.{here, done}
 use Rattle.fault.specs.declared.Fault.{Fault}
-use Rattle.fault.specs.Answer.{given, refused}
 use Rattle.command.specs.Command.{takes_next, piece_of, width_of, pieces_after, pieces_of, piece_fault, is_item, pieces_fault}
 use Rattle.command.specs.Step.{see_piece, see_pieces, unless_fault}
 use Rattle.command.specs.declared.Piece.{Piece}
@@ -66,7 +65,7 @@ module _ (q : Bool) (s : List ℕ) (i : ℕ) (h : i < length s) where
 
   pub faults-here : (p t : Bool) (at : ℕ) {c w : ℕ} → c ≡ get_or s (i + 1) 0 → w ≡ width_of q (get_or s i 0)
       → pieces_fault q p t (drop i s) 0 (at + i)
-      ≡ maybe (piece_fault q p t (get_or s i 0) c (at + i)) (pieces_fault q p (is_item (piece_of q (get_or s i 0) c) || t) (drop (i + w) s) 0 (at + (i + w))) some
+      ≡ maybe (piece_fault q p t (get_or s i 0) c (at + i)) (pieces_fault q p (is_item (piece_of q (get_or s i 0) c) || t) (drop (i + w) s) 0 (at + (i + w))) Some
   unfolding pieces_fault
   faults-here p t at {c} {w} e f =
       let n = next f in
@@ -91,16 +90,16 @@ pub checking-start : {q p : Bool} {s : List ℕ} {at : ℕ} {seen : Seen} → Ch
 checking-start {q} {p} {s} {at} {seen} = record { faults = ap (λ (k : ℕ). pieces_fault q p seen.taken s 0 k) (add-zero at); codes = refl }
 
 module _ {q p : Bool} {s : List ℕ} {at : ℕ} {seen₀ : Seen} {i : ℕ} {seen : Seen} (w : Checking q p s at seen₀ i seen) where
-  pub checking-end : length s ≤ i → given seen ≡ unless_fault (pieces_fault q p seen₀.taken s 0 at) (see_pieces seen₀ (pieces_of q s))
+  pub checking-end : length s ≤ i → Ok seen ≡ unless_fault (pieces_fault q p seen₀.taken s 0 at) (see_pieces seen₀ (pieces_of q s))
   unfolding pieces_fault pieces_after see_pieces
   checking-end h = rw (← w.faults, ← w.codes, done s i h)
 
   module _ (h : i < length s) {c : ℕ} (e : c ≡ get_or s (i + 1) 0) where
-    pub checking-refused : {f : Fault} → some f ≡ piece_fault q p seen.taken (get_or s i 0) c (at + i)
-        → refused f ≡ unless_fault (pieces_fault q p seen₀.taken s 0 at) (see_pieces seen₀ (pieces_of q s))
+    pub checking-refused : {f : Fault} → Some f ≡ piece_fault q p seen.taken (get_or s i 0) c (at + i)
+        → Err f ≡ unless_fault (pieces_fault q p seen₀.taken s 0 at) (see_pieces seen₀ (pieces_of q s))
     checking-refused r = rw (← w.faults, faults-here q s i h p seen.taken at e refl, ← r)
 
-    pub checking-next : {n : ℕ} {seen₁ : Seen} {x : Piece} → none ≡ piece_fault q p seen.taken (get_or s i 0) c (at + i) → x ≡ piece_of q (get_or s i 0) c → seen₁ ≡ see_piece seen x
+    pub checking-next : {n : ℕ} {seen₁ : Seen} {x : Piece} → None ≡ piece_fault q p seen.taken (get_or s i 0) c (at + i) → x ≡ piece_of q (get_or s i 0) c → seen₁ ≡ see_piece seen x
         → n ≡ width_of q (get_or s i 0) → Checking q p s at seen₀ (i + n) seen₁
     unfolding see_pieces
     checking-next {n} {seen₁} {x} r g y f =

@@ -1,9 +1,9 @@
 -- A command that is read has one code at most that takes files. Assumes nothing.
+use Rattle.std.specs.Prelude.{Option, Some, None, Ok}
 use mathlib.Core.Path.{◌≡◌, refl}
 use Prim.Native.Nat.{ℕ, zero, suc, ◌+◌, ◌-◌, ◌≤◌}
 use native.Mathlib.Omega.{arith}
 use mathlib.Core.Bool.{Bool, true, false, not, ◌&&◌, ◌||◌}
-use mathlib.Core.Option.{Option, none, some}
 use mathlib.Core.List.{List, [], ◌∷◌, map}
 use lib.ListN.{length}
 use lib.Dec.{eqb}
@@ -12,7 +12,7 @@ use Rattle.base.specs.Lists.{any}
 use Rattle.base.proofs.Tests.{no}
 use Rattle.fault.specs.declared.Fault.{Fault}
 use Rattle.fault.specs.declared.Fault.TheVariants.{BadExec, BadCode}
-use Rattle.fault.specs.Answer.{given, ◌>>=◌, unless}
+use Rattle.fault.specs.Answer.{◌>>=◌, unless}
 use Rattle.line.specs.Name.{byte_at}
 use Rattle.command.specs.declared.Piece.{Piece}
 use Rattle.command.specs.declared.Piece.TheVariants as piece
@@ -44,30 +44,30 @@ code-item q p t c = go (eqb c 37) (item_code c) q p t
         other false true f = no (cc)
         other false false f = no (cc)
 
-piece-item : (q p t : Bool) (b c at : ℕ) → piece_fault q p t b c at ≡ none → is_item (piece_of q b c) ≡ true → t ≡ false
+piece-item : (q p t : Bool) (b c at : ℕ) → piece_fault q p t b c at ≡ None → is_item (piece_of q b c) ≡ true → t ≡ false
 unfolding piece_fault piece_of
 piece-item q p t b c at = go (eqb b 37)
   where
-    go : (x : Bool) → pick x (pick (code_in q p t c) none (some (BadCode at))) (pick (pick (takes_next q b) (needs_backslash c) (stands_in q p b)) none (some (BadExec at))) ≡ none
+    go : (x : Bool) → pick x (pick (code_in q p t c) None (Some (BadCode at))) (pick (pick (takes_next q b) (needs_backslash c) (stands_in q p b)) None (Some (BadExec at))) ≡ None
         → is_item (pick x (code_piece c) (piece.Byte (pick (takes_next q b) c b))) ≡ true → t ≡ false
     go false e f = no (cc)
     go true e f = code-item q p t c (sound (code_in q p t c) e) f
       where
-        sound : (y : Bool) → pick y none (some (BadCode at)) ≡ none → y ≡ true
+        sound : (y : Bool) → pick y None (Some (BadCode at)) ≡ None → y ≡ true
         sound true e = refl
         sound false e = no (cc)
 
 -- ---- pieces
 
-both-none : (o later : Option Fault) → maybe o later some ≡ none → (o ≡ none) × (later ≡ none)
-both-none none later e = (refl, e)
-both-none (some f) later e = no (cc)
+both-none : (o later : Option Fault) → maybe o later Some ≡ None → (o ≡ None) × (later ≡ None)
+both-none None later e = (refl, e)
+both-none (Some f) later e = no (cc)
 
 -- what may still be taken
 abbrev free : Bool → ℕ
 free t = pick t 0 1
 
-pieces-one : (q p t : Bool) (s : List ℕ) (n at : ℕ) → pieces_fault q p t s n at ≡ none → item_codes (pieces_after q s n) ≤ free t
+pieces-one : (q p t : Bool) (s : List ℕ) (n at : ℕ) → pieces_fault q p t s n at ≡ None → item_codes (pieces_after q s n) ≤ free t
 unfolding pieces_fault pieces_after
 pieces-one q p t [] n at e = omega arith
 pieces-one q p t (b ∷ s) (suc n) at e = pieces-one q p t s n (at + 1) e
@@ -93,23 +93,23 @@ none-taken (p ∷ ps) e = go (is_item p) e (none-taken ps)
 
 -- ---- words
 
-quoted-inside : (program taken : Bool) (w : Word) → quoted_fault program taken w ≡ none → pieces_fault true program taken (inside w.bytes) 0 (w.start + 1) ≡ none
+quoted-inside : (program taken : Bool) (w : Word) → quoted_fault program taken w ≡ None → pieces_fault true program taken (inside w.bytes) 0 (w.start + 1) ≡ None
 unfolding quoted_fault
 quoted-inside program taken w = go (unfit program (length w.bytes) (inside_length w.bytes))
   where
     behind : Option Fault
-    behind = pick (eqb (length w.bytes) (inside_length w.bytes + 2)) none (some (BadExec (w.start + inside_length w.bytes + 2)))
+    behind = pick (eqb (length w.bytes) (inside_length w.bytes + 2)) None (Some (BadExec (w.start + inside_length w.bytes + 2)))
 
-    go : (u : Bool) → pick u (some (BadExec w.start)) (maybe (pieces_fault true program taken (inside w.bytes) 0 (w.start + 1)) behind some) ≡ none
-        → pieces_fault true program taken (inside w.bytes) 0 (w.start + 1) ≡ none
+    go : (u : Bool) → pick u (Some (BadExec w.start)) (maybe (pieces_fault true program taken (inside w.bytes) 0 (w.start + 1)) behind Some) ≡ None
+        → pieces_fault true program taken (inside w.bytes) 0 (w.start + 1) ≡ None
     go true e = no (cc)
     go false e = (both-none (pieces_fault true program taken (inside w.bytes) 0 (w.start + 1)) behind e).0
 
-word-as : (k : Form) (program taken : Bool) (w : Word) → fault_as k program taken w ≡ none → file_codes (argument_as k w.bytes) ≤ free taken
+word-as : (k : Form) (program taken : Bool) (w : Word) → fault_as k program taken w ≡ None → file_codes (argument_as k w.bytes) ≤ free taken
 word-as form.Quoted program taken w e = pieces-one true program taken (inside w.bytes) 0 (w.start + 1) (quoted-inside program taken w e)
 word-as form.Files program taken w e = go program taken e
   where
-    go : (p t : Bool) → pick (p || t) (some (BadCode w.start)) none ≡ none → 1 ≤ free t
+    go : (p t : Bool) → pick (p || t) (Some (BadCode w.start)) None ≡ None → 1 ≤ free t
     go true t e = no (cc)
     go false true e = no (cc)
     go false false e = omega arith
@@ -121,8 +121,8 @@ none_of Files e = no (cc)
 none_of Icon e = refl
 none_of (Text q ps) e = none-taken ps e
 
-words-next : (program taken : Bool) (w : Word) (ws : List Word) → maybe (word_fault program taken w) (words_fault false (takes_files (argument_of w) || taken) ws) some ≡ none
-    → (words_fault false (takes_files (argument_of w) || taken) ws ≡ none → all_file_codes (map argument_of ws) ≤ free (takes_files (argument_of w) || taken))
+words-next : (program taken : Bool) (w : Word) (ws : List Word) → maybe (word_fault program taken w) (words_fault false (takes_files (argument_of w) || taken) ws) Some ≡ None
+    → (words_fault false (takes_files (argument_of w) || taken) ws ≡ None → all_file_codes (map argument_of ws) ≤ free (takes_files (argument_of w) || taken))
     → file_codes (argument_of w) + all_file_codes (map argument_of ws) ≤ free taken
 unfolding word_fault argument_of
 words-next program taken w ws e f =
@@ -134,7 +134,7 @@ words-next program taken w ws e f =
     go true z h l = omega arith
     go false z h l = let y = z refl in omega arith
 
-words-one : (program taken : Bool) (ws : List Word) → words_fault program taken ws ≡ none → all_file_codes (map argument_of ws) ≤ free taken
+words-one : (program taken : Bool) (ws : List Word) → words_fault program taken ws ≡ None → all_file_codes (map argument_of ws) ≤ free taken
 unfolding words_fault
 words-one program taken [] e = omega arith
 words-one true taken (w ∷ ws) e = words-next true taken w ws e (words-one false (takes_files (argument_of w) || taken) ws)
@@ -144,6 +144,6 @@ pub one_takes_files : OneTakesFiles
 unfolding read_command
 one_takes_files exec args = go (words_fault true false (words exec)) refl
   where
-    go : (o : Option Fault) → words_fault true false (words exec) ≡ o → (unless o >>= λ _. given (arguments_in exec)) ≡ given args → all_file_codes args ≤ 1
-    go none f e = let a : arguments_in exec ≡ args = cc in rw (← a) (words-one true false (words exec) f)
-    go (some x) f e = no (cc)
+    go : (o : Option Fault) → words_fault true false (words exec) ≡ o → (unless o >>= λ _. Ok (arguments_in exec)) ≡ Ok args → all_file_codes args ≤ 1
+    go None f e = let a : arguments_in exec ≡ args = cc in rw (← a) (words-one true false (words exec) f)
+    go (Some x) f e = no (cc)

@@ -1,13 +1,12 @@
 -- A command: the arguments of an unescaped Exec, and the lowest place where it is badly written (15) or has a wrong field code (16)
 -- (01, "Building a command"). Places count in the unescaped value. Assumes nothing.
-use Rattle.std.specs.Prelude.{ℕ, zero, suc, ◌+◌, ◌-◌, Bool, true, false, ◌&&◌, ◌||◌, List, [], ◌∷◌, map, length, take, drop, eqb, leb}
+use Rattle.std.specs.Prelude.{ℕ, zero, suc, ◌+◌, ◌-◌, Bool, true, false, ◌&&◌, ◌||◌, List, [], ◌∷◌, map, length, take, drop, eqb, leb, Option, Some, None, Ok}
 use Prim.Native.Char.{code}
-use Rattle.std.proofs.Math.Option.{Option, none, some}
 use Rattle.base.specs.Choice.{pick, maybe}
 use Rattle.base.specs.Lists.{any}
 use Rattle.fault.specs.declared.Fault.{Fault}
 use Rattle.fault.specs.declared.Fault.TheVariants.{BadExec, BadCode}
-use Rattle.fault.specs.Answer.{Answer, given, ◌>>=◌, unless}
+use Rattle.fault.specs.Answer.{Answer, ◌>>=◌, unless}
 use Rattle.line.specs.Name.{byte_at}
 use Rattle.command.specs.Words.{Word, words, opens, inside_length}
 use Rattle.command.specs.Codes.{files_code, needs_backslash, stands_in, code_piece, code_in}
@@ -76,8 +75,8 @@ argument_of w = argument_as (form_of w.bytes) w.bytes
 -- the fault of the piece that begins with these two bytes; the flags: in quotes; of the program; a code that takes files stood before
 unfoldable pub piece_fault : Bool → Bool → Bool → ℕ → ℕ → ℕ → Option Fault
 piece_fault quoted program taken b c at =
-    pick (eqb b (code "%")) (pick (code_in quoted program taken c) none (some (BadCode at)))
-    (pick (pick (takes_next quoted b) (needs_backslash c) (stands_in quoted program b)) none (some (BadExec at)))
+    pick (eqb b (code "%")) (pick (code_in quoted program taken c) None (Some (BadCode at)))
+    (pick (pick (takes_next quoted b) (needs_backslash c) (stands_in quoted program b)) None (Some (BadExec at)))
 
 -- the piece is an item code
 abbrev pub is_item : Piece → Bool
@@ -89,12 +88,12 @@ is_item piece.Vanished = false
 
 -- the first fault among the pieces from a place on, after so many bytes that belong to a piece found before
 unfoldable pub pieces_fault : Bool → Bool → Bool → List ℕ → ℕ → ℕ → Option Fault
-pieces_fault quoted program taken [] n at = none
+pieces_fault quoted program taken [] n at = None
 pieces_fault quoted program taken (b ∷ bs) (suc n) at = pieces_fault quoted program taken bs n (at + 1)
 pieces_fault quoted program taken (b ∷ bs) zero at =
     let c : ℕ = byte_at bs 0 in
     let later : Option Fault = pieces_fault quoted program (is_item (piece_of quoted b c) || taken) bs (width_of quoted b - 1) (at + 1) in
-    maybe (piece_fault quoted program taken b c at) later some
+    maybe (piece_fault quoted program taken b c at) later Some
 
 -- a word of so many bytes, of them so many in quotes: it is not closed, or it is an empty program
 abbrev pub unfit : Bool → ℕ → ℕ → Bool
@@ -104,15 +103,15 @@ unfit program size n = leb size (n + 1) || (program && eqb n 0)
 unfoldable pub quoted_fault : Bool → Bool → Word → Option Fault
 quoted_fault program taken w =
     let n : ℕ = inside_length w.bytes in
-    let behind : Option Fault = pick (eqb (length w.bytes) (n + 2)) none (some (BadExec (w.start + n + 2))) in
-    pick (unfit program (length w.bytes) n) (some (BadExec w.start))
-    (maybe (pieces_fault true program taken (inside w.bytes) 0 (w.start + 1)) behind some)
+    let behind : Option Fault = pick (eqb (length w.bytes) (n + 2)) None (Some (BadExec (w.start + n + 2))) in
+    pick (unfit program (length w.bytes) n) (Some (BadExec w.start))
+    (maybe (pieces_fault true program taken (inside w.bytes) 0 (w.start + 1)) behind Some)
 
 -- a word's first fault, by its form: the program is no code, and one code at most takes files
 abbrev pub fault_as : Form → Bool → Bool → Word → Option Fault
 fault_as form.Quoted program taken w = quoted_fault program taken w
-fault_as form.Files program taken w = pick (program || taken) (some (BadCode w.start)) none
-fault_as form.Icon program taken w = pick program (some (BadCode w.start)) none
+fault_as form.Files program taken w = pick (program || taken) (Some (BadCode w.start)) None
+fault_as form.Icon program taken w = pick program (Some (BadCode w.start)) None
 fault_as form.Bare program taken w = pieces_fault false program taken w.bytes 0 w.start
 
 -- a word's first fault
@@ -133,11 +132,11 @@ takes_files (Text quoted ps) = any is_item ps
 
 -- the words' first fault; the program must be there
 unfoldable pub words_fault : Bool → Bool → List Word → Option Fault
-words_fault true taken [] = some (BadExec 0)
-words_fault false taken [] = none
+words_fault true taken [] = Some (BadExec 0)
+words_fault false taken [] = None
 words_fault program taken (w ∷ ws) =
     let later : Option Fault = words_fault false (takes_files (argument_of w) || taken) ws in
-    maybe (word_fault program taken w) later some
+    maybe (word_fault program taken w) later Some
 
 -- ---- the command
 
@@ -163,4 +162,4 @@ arguments_in exec = map argument_of (words exec)
 unfoldable pub read_command : List ℕ → Answer (List Argument)
 read_command exec = do
   _ ← unless (words_fault true false (words exec))
-  given (arguments_in exec)
+  Ok (arguments_in exec)

@@ -1,7 +1,6 @@
 -- What is promised of every command that is read: one code at most takes files (01, "Building a command"). Assumes nothing.
-use Rattle.std.specs.Prelude.{ℕ, ◌+◌, ◌≤◌, ◌≡◌, List, [], ◌∷◌}
+use Rattle.std.specs.Prelude.{ℕ, ◌+◌, ◌≤◌, ◌≡◌, List, [], ◌∷◌, Ok}
 use Rattle.base.specs.Choice.{pick}
-use Rattle.fault.specs.Answer.{given}
 use Rattle.command.specs.declared.Piece.{Piece}
 use Rattle.command.specs.Command.{Argument, Files, Icon, Text, is_item, read_command}
 
@@ -23,4 +22,4 @@ all_file_codes (a ∷ args) = file_codes a + all_file_codes args
 
 -- a command that is read has one at most
 abbrev pub OneTakesFiles : Type 0
-OneTakesFiles = (exec : List ℕ) (args : List Argument) → read_command exec ≡ given args → all_file_codes args ≤ 1
+OneTakesFiles = (exec : List ℕ) (args : List Argument) → read_command exec ≡ Ok args → all_file_codes args ≤ 1

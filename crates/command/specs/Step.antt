@@ -1,9 +1,8 @@
 -- What the inner functions of this crate answer, by the definitions of a command. Assumes nothing.
-use Rattle.std.specs.Prelude.{true, false, List, [], ◌∷◌}
-use Rattle.std.proofs.Math.Option.{Option, none, some}
+use Rattle.std.specs.Prelude.{true, false, List, [], ◌∷◌, Option, Some, None, Ok, Err}
 use Rattle.base.specs.Choice.{maybe}
 use Rattle.fault.specs.declared.Fault.{Fault}
-use Rattle.fault.specs.Answer.{Answer, given, refused}
+use Rattle.fault.specs.Answer.{Answer}
 use Rattle.base.specs.Lists.{any}
 use Rattle.command.specs.Command.{Argument, Files, Icon, Text, takes_files, has_piece, is_item, is_name, is_icon}
 use Rattle.command.specs.declared.Piece.{Piece}
@@ -16,8 +15,8 @@ use Rattle.command.specs.declared.Checked.TheVariants as checked
 
 -- the fault that is told, if any
 abbrev pub fault_in : Verdict → Option Fault
-fault_in verdict.Sound = none
-fault_in (verdict.Refused f) = some f
+fault_in verdict.Sound = None
+fault_in (verdict.Refused f) = Some f
 
 -- which codes stand, with one piece more
 abbrev pub see_piece : Seen → Piece → Seen
@@ -45,12 +44,12 @@ see_arguments s (a ∷ more) = see_arguments (see_argument s a) more
 
 -- what a check says
 abbrev pub checked_as : Checked → Answer Seen
-checked_as (checked.Sound s) = given s
-checked_as (checked.Refused f) = refused f
+checked_as (checked.Sound s) = Ok s
+checked_as (checked.Refused f) = Err f
 
 -- a fault, or which codes then stand
 abbrev pub unless_fault : Option Fault → Seen → Answer Seen
-unless_fault o s = maybe o (given s) refused
+unless_fault o s = maybe o (Ok s) Err
 
 -- nothing seen yet
 abbrev pub unseen : Seen

@@ -1,4 +1,5 @@
 -- The pass over the rows for the first boolean key with another value, in a file without bad lines. Assumes nothing.
+use Rattle.std.specs.Prelude.{Ok, Err}
 use mathlib.Core.Path.{◌≡◌, refl, sym, ◌∙◌}
 use Prim.Native.Nat.{ℕ, ◌+◌, ◌-◌, ◌≤◌, ◌<◌}
 use mathlib.Core.Bool.{Bool, true, false, not, ◌&&◌, ◌||◌, and-false}
@@ -9,7 +10,6 @@ use Rattle.base.specs.Lists.{same, part, any, first}
 use Rattle.base.proofs.Tests.{or-both}
 use Rattle.base.proofs.Search.{any_append}
 use Rattle.fault.specs.declared.Fault.TheVariants.{Incomplete}
-use Rattle.fault.specs.Answer.{given, refused}
 use Rattle.line.specs.Name.{byte_at}
 use Rattle.line.specs.Line.{read_line, is_bad}
 use Rattle.line.specs.declared.Line.{Line}
@@ -49,7 +49,7 @@ unfolding same read_rows
 booleans-start s h = record { group = []; starts = prefix-start s; within = refl; good = h; goes = refl }
 
 -- no row is left
-pub booleans-end : {s : List ℕ} {p n : ℕ} {inside : Bool} → BooleansFrom s p n inside → length s ≤ p → given tt ≡ booleans (read_rows s)
+pub booleans-end : {s : List ℕ} {p n : ℕ} {inside : Bool} → BooleansFrom s p n inside → length s ≤ p → Ok tt ≡ booleans (read_rows s)
 unfolding booleans first rows_from
 booleans-end {s} {p} w h = rw (no_row s p h) at w.goes
 
@@ -104,6 +104,6 @@ module _ {s : List ℕ} {p n : ℕ} {inside : Bool} (w : BooleansFrom s p n insi
     pub after-plain : (inside && wrong_in (part p e s) (read_line (part p e s))) ≡ false → BooleansFrom s (e + 1) (n + 1) inside
     after-plain f = next (plain_at ∙ f) (rw stays w.within)
 
-    pub at-wrong : (inside && wrong_in (part p e s) (read_line (part p e s))) ≡ true → refused (Incomplete n) ≡ booleans (read_rows s)
+    pub at-wrong : (inside && wrong_in (part p e s) (read_line (part p e s))) ≡ true → Err (Incomplete n) ≡ booleans (read_rows s)
     unfolding booleans first
     at-wrong f = rw (row_step s h q n w.group, plain_at, f) at w.goes

@@ -1,8 +1,8 @@
 -- A plain key of Desktop Entry, by what is told of its row, and completeness where Type is there. Assumes nothing.
+use Rattle.std.specs.Prelude.{Some, None}
 use mathlib.Core.Path.{◌≡◌, refl, sym, ◌∙◌}
 use Prim.Native.Nat.{ℕ, ◌≤◌}
 use mathlib.Core.Bool.{Bool, true, false, ◌&&◌}
-use mathlib.Core.Option.{none, some}
 use mathlib.Core.List.{List}
 use lib.ListN.{length}
 use Rattle.base.specs.Lists.{ascii, part}
@@ -21,14 +21,14 @@ use Rattle.complete.specs.Step.{keys_there}
 -- the row of a key that is there: its number, and where its value stands in the file
 pub record KeyRow (f key : List ℕ) (n e v : ℕ) : Type 0 where
   pub row : Row
-  pub found : find_row (read_rows f) (main key) ≡ some row
+  pub found : find_row (read_rows f) (main key) ≡ Some row
   pub line-is : n ≡ row.line
   pub value-is : part v e f ≡ raw_value row
   pub value-le : v ≤ e
   pub end-le : e ≤ length f
 
 -- its value stands between the places told
-stands : (f key : List ℕ) {r : Row} {n p e v : ℕ} → Told r n p e v → find_row (read_rows f) (main key) ≡ some r → part v e f ≡ raw_value r
+stands : (f key : List ℕ) {r : Row} {n p e v : ℕ} → Told r n p e v → find_row (read_rows f) (main key) ≡ Some r → part v e f ≡ raw_value r
 unfolding raw_value
 stands f key {r} t i = rw (t.end_is, t.value-is) (value-stands f (found-row f (main key) r i))
 
@@ -40,7 +40,7 @@ module _ (f key : List ℕ) {r : Found} (t : r ≡ found_of (find_row (read_rows
       let b = told_bounds f (main key) n p e v (sym t ∙ i) in
       record { row = a.0; found = a.1; line-is = a.2.line-is; value-is = stands f key a.2 a.1; value-le = b.1; end-le = b.2 }
 
-  pub key-none : r ≡ told.Nothing → find_row (read_rows f) (main key) ≡ none
+  pub key-none : r ≡ told.Nothing → find_row (read_rows f) (main key) ≡ None
   key-none i = told-nothing (find_row (read_rows f) (main key)) (sym t ∙ i)
 
 -- ---- where Type is there
@@ -52,7 +52,7 @@ need-all true true false f x = refl
 need-all true false c f x = refl
 need-all false b c f x = refl
 
-pub complete-type : (rs : List Row) {row : Row} → find_row rs (main (ascii "Type")) ≡ some row
+pub complete-type : (rs : List Row) {row : Row} → find_row rs (main (ascii "Type")) ≡ Some row
     → complete_rows rs ≡ (need (known_type (raw_value row)) (Incomplete row.line) >>= λ _. need (keys_there rs) (Incomplete 0) >>= λ _. booleans rs)
 unfolding complete_rows keys_there
 complete-type rs i = rw (i, need-all (has rs (main (ascii "Name"))) (exec_where_due rs) (url_where_due rs) (Incomplete 0) (booleans rs))

@@ -1,9 +1,9 @@
 -- Completeness (01, "Lines of a file"): by plain keys of Desktop Entry and raw values. Assumes nothing.
-use Rattle.std.specs.Prelude.{ℕ, Bool, false, not, ◌&&◌, ◌||◌, List, [], ◌∷◌}
+use Rattle.std.specs.Prelude.{ℕ, Bool, false, not, ◌&&◌, ◌||◌, List, [], ◌∷◌, Ok, Err}
 use Rattle.base.specs.Choice.{maybe}
 use Rattle.base.specs.Lists.{ascii, same, any, first}
 use Rattle.fault.specs.declared.Fault.TheVariants.{Incomplete}
-use Rattle.fault.specs.Answer.{Answer, given, refused, ◌>>=◌, need, some_or}
+use Rattle.fault.specs.Answer.{Answer, ◌>>=◌, need, some_or}
 use Rattle.rows.specs.Rows.{Row, raw_value}
 use Rattle.rows.specs.Title.{desktop_entry, Title, Key, title, same_title, find_row, has}
 
@@ -41,7 +41,7 @@ bad_boolean r = any (λ k. same_title (main k) (title r)) boolean_keys && not (i
 
 -- a refusal at the first boolean key with another value
 unfoldable pub booleans : List Row → Answer (Unit {0})
-booleans rs = maybe (first bad_boolean rs) (given tt) (λ r. refused (Incomplete r.line))
+booleans rs = maybe (first bad_boolean rs) (Ok tt) (λ r. Err (Incomplete r.line))
 
 -- 18, of the rows of a well-formed file: Type, Name, Exec, URL, the booleans by line
 unfoldable pub complete_rows : List Row → Answer (Unit {0})

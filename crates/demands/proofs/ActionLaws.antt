@@ -1,9 +1,10 @@
 -- The listed actions, by the public calls. Assumes nothing.
+use Rattle.std.proofs.lemmas.Option.{same_Some}
+use Rattle.std.specs.Prelude.{Some, Ok, Err}
 use mathlib.Core.Path.{◌≡◌, refl, sym, ap, ◌∙◌}
 use Prim.Native.Nat.{ℕ, ◌≤◌}
 use native.Mathlib.Omega.{arith}
 use mathlib.Core.Bool.{Bool, true, false, not, ◌&&◌}
-use mathlib.Core.Option.{some, some-injective}
 use mathlib.Core.List.{List, [], ◌∷◌, map}
 use lib.ListN.{length, length-append}
 use Rattle.base.specs.Choice.{pick}
@@ -11,7 +12,7 @@ use Rattle.base.specs.Lists.{ascii, same, any, all}
 use Rattle.base.proofs.Search.{any-map}
 use Rattle.base.proofs.Tests.{no, and_both}
 use Rattle.fault.specs.declared.Fault.TheVariants.{Missing}
-use Rattle.fault.specs.Answer.{Answer, given, refused, ◌>>=◌, need, then}
+use Rattle.fault.specs.Answer.{Answer, ◌>>=◌, need, then}
 use Rattle.fault.proofs.Answers.{bind-given, need-given, given_is, bind-then}
 use Rattle.record.specs.Record.{read_list, list_of}
 use Rattle.record.proofs.Sizes.{records_of}
@@ -77,7 +78,7 @@ record Labelled (ids : List (List ℕ)) (bs : List (List ℕ)) : Type 0 where
   fit : FitsAll (records_of 2 bs)
 
 module _ (file locale : List ℕ) (h : length file ≤ 32768) where
-  labelled-list : (ids : List (List ℕ)) (bs : List (List ℕ)) → all (is_action (read_rows file)) ids ≡ true → labelled (read_rows file) locale ids ≡ given bs → Labelled ids bs
+  labelled-list : (ids : List (List ℕ)) (bs : List (List ℕ)) → all (is_action (read_rows file)) ids ≡ true → labelled (read_rows file) locale ids ≡ Ok bs → Labelled ids bs
   unfolding labelled all bodies
   labelled-list [] bs k e = let z : [] ≡ bs = given_is _ _ e in record { list = []; are = refl; bodies-are = z; fit = rw (← z) no_record }
   labelled-list (id ∷ ids) bs k e =
@@ -111,12 +112,12 @@ same-bodies (a ∷ menu) (c ∷ cs) e =
 
 record Passed (file out : List ℕ) : Type 0 where
   ids : List (List ℕ)
-  listed-is : listed (read_rows file) ≡ given (listed_from (read_rows file) [] ids)
+  listed-is : listed (read_rows file) ≡ Ok (listed_from (read_rows file) [] ids)
   bs : List (List ℕ)
   labels : Labelled (listed_from (read_rows file) [] ids) bs
   written : list_of 2 bs ≡ out
 
-passed : (file locale out : List ℕ) → actions file locale ≡ given out → Passed file out
+passed : (file locale out : List ℕ) → actions file locale ≡ Ok out → Passed file out
 unfolding actions listed
 passed file locale out e =
     let rs : List Row = read_rows file in
@@ -124,23 +125,23 @@ passed file locale out e =
     let b = need-given (locale_form locale) _ _ out a.2 in
     let c = bind-given (listed rs) _ out b.1 in
     let d = bind-given (labelled rs locale c.0) _ out c.2 in
-    let f = bind-given (identifiers rs) (λ ids. given (listed_from rs [] ids)) c.0 (bind-then (listed_from rs []) (identifiers rs) ∙ c.1) in
+    let f = bind-given (identifiers rs) (λ ids. Ok (listed_from rs [] ids)) c.0 (bind-then (listed_from rs []) (identifiers rs) ∙ c.1) in
     let z : listed_from rs [] f.0 ≡ c.0 = given_is _ _ f.2 in
     record {
       ids = f.0;
-      listed-is = c.1 ∙ ap given (sym z);
+      listed-is = c.1 ∙ ap Ok (sym z);
       bs = d.0;
       labels = labelled-list file locale (file-short file a.1) (listed_from rs [] f.0) d.0 (listed-actions rs [] f.0) (rw z d.1);
       written = given_is _ _ d.2;
     }
 
-reads-bodies : {file out : List ℕ} (p : Passed file out) → read_list 2 (length out) out ≡ some p.bs
+reads-bodies : {file out : List ℕ} (p : Passed file out) → read_list 2 (length out) out ≡ Some p.bs
 reads-bodies p = rw (← p.written) (list_back 2 (length (list_of 2 p.bs)) p.bs p.labels.fit (omega arith))
 
 -- the identifiers of a list that was read back
 menu-ids : {file locale : List ℕ} {menu : List Action} (m : Menu file locale menu) (p : Passed file m.out) → map (λ a. a.id) menu ≡ listed_from (read_rows file) [] p.ids
 menu-ids {menu = menu} m p =
-    same-bodies menu p.labels.list (some-injective _ _ (sym m.reads_back ∙ reads-bodies p) ∙ sym p.labels.bodies-are) ∙ p.labels.are
+    same-bodies menu p.labels.list (same_Some _ _ (sym m.reads_back ∙ reads-bodies p) ∙ sym p.labels.bodies-are) ∙ p.labels.are
 
 -- ---- the laws
 
@@ -148,7 +149,7 @@ pub list-reads-back : ListReadsBack
 unfolding ListReadsBack
 list-reads-back file locale out e =
     let p = passed file locale out e in
-    (p.labels.list, record { out = out; is = e; reads_back = reads-bodies p ∙ ap some (sym p.labels.bodies-are) }, refl)
+    (p.labels.list, record { out = out; is = e; reads_back = reads-bodies p ∙ ap Some (sym p.labels.bodies-are) }, refl)
 
 pub listed-can-be-asked : ListedCanBeAsked
 unfolding ListedCanBeAsked expand_action
@@ -160,11 +161,11 @@ listed-can-be-asked file language menu m id locale location list run =
     G : List (List ℕ) → Answer (List (List ℕ))
     G items = group_arguments (read_rows file) (action_group id) locale location items run
 
-    go : (b : Bool) (a : Answer (List (List ℕ))) → (a >>= λ items. (need b Missing >>= λ _. (G items >>= λ args. given (list_of 3 args))))
-        ≡ (a >>= λ items. pick b (then (list_of 3) (G items)) (refused Missing))
-    go b (refused f) = refl
-    go true (given items) = bind-then (list_of 3) (G items)
-    go false (given items) = refl
+    go : (b : Bool) (a : Answer (List (List ℕ))) → (a >>= λ items. (need b Missing >>= λ _. (G items >>= λ args. Ok (list_of 3 args))))
+        ≡ (a >>= λ items. pick b (then (list_of 3) (G items)) (Err Missing))
+    go b (Err f) = refl
+    go true (Ok items) = bind-then (list_of 3) (G items)
+    go false (Ok items) = refl
 
 pub none-listed-twice : NoneListedTwice
 unfolding NoneListedTwice

@@ -1,4 +1,5 @@
 -- Demand 3: whatever the calls, the buffers tell what the book tells. Assumes nothing.
+use Rattle.std.specs.Prelude.{Ok, Err}
 use mathlib.Core.Path.{◌≡◌, refl, sym, ap, ◌∙◌}
 use Prim.Native.Nat.{ℕ, zero, suc, ◌+◌, ◌-◌, ◌≤◌, ◌<◌}
 use native.Mathlib.Omega.{arith}
@@ -14,7 +15,7 @@ use Rattle.base.specs.Over.{over}
 use Rattle.base.proofs.Over.{length_over}
 use Rattle.base.proofs.Tests.{and_both}
 use Rattle.fault.specs.declared.Fault.TheVariants.{NoRoom, NothingLeft, JournalFull}
-use Rattle.fault.specs.Answer.{Answer, given, refused, then, at_exit}
+use Rattle.fault.specs.Answer.{Answer, then, at_exit}
 use Rattle.record.specs.Record.{record_bytes, list_bytes}
 use Rattle.rows.specs.Title.{desktop_entry}
 use Rattle.wellformed.specs.WellFormed.{well_formed}
@@ -40,7 +41,7 @@ use Rattle.demands.specs.Demand3.{with_journal, state_call, person_fits, told, t
 
 -- a request that could be met where it was made, and its edit
 pub record Fine (room : ℕ) (f : List ℕ) (q : Authored Request) (e : Authored Edit) : Type 0 where
-  pub asked : edit_of f q.what ≡ given e.what
+  pub asked : edit_of f q.what ≡ Ok e.what
   pub same-author : q.author ≡ e.author
   pub small : Small e
   pub fits-before : file_fits room f ≡ true
@@ -62,7 +63,7 @@ Next room f [] (e ∷ es) = ⊥
 Next room f (q ∷ qs) [] = ⊥
 Next room f (q ∷ qs) (e ∷ es) = Fine room f q e × Next room (spliced e.what f) qs es
 
-after_is : (t : List ℕ) (q : Authored Request) (qs : List (Authored Request)) (e : Edit) → edit_of (file_after t qs) q.what ≡ given e → file_after t (q ∷ qs) ≡ spliced e (file_after t qs)
+after_is : (t : List ℕ) (q : Authored Request) (qs : List (Authored Request)) (e : Edit) → edit_of (file_after t qs) q.what ≡ Ok e → file_after t (q ∷ qs) ≡ spliced e (file_after t qs)
 unfolding file_after
 after_is t q qs e h = let f : List ℕ = file_after t qs in ap (λ (a : Answer Edit). at_exit f (then (λ d. spliced d f) a)) h
 
@@ -111,14 +112,14 @@ module _ (s : State) (b : Book) (h : Rep s b) where
   pub small : AllSmall (reverse_aux h.es h.ws)
   small = small-reverse h.es h.ws (past-small b.file_room b.start b.standing h.es h.stood) (next_small b.file_room (book_file b) b.waiting h.ws h.waits)
 
-  journal_is : journal_in (journal_of s) ≡ given (record { stand = h.es; wait = h.ws })
+  journal_is : journal_in (journal_of s) ≡ Ok (record { stand = h.es; wait = h.ws })
   journal_is = rw (h.bytes, h.standing, journal-back h.es h.ws small)
 
-  pub opens : opened s ≡ given (record { stand = h.es; wait = h.ws })
+  pub opens : opened s ≡ Ok (record { stand = h.es; wait = h.ws })
   unfolding opened file_checked lengths_fit
   opens = rw (le-leb s.size (length s.file) h.size, numbers_fit_lem, h.text, checks (book_file b) h.well, journal_is)
 
-  pub opens-journal : alone.opened (journal_of s) ≡ given (record { stand = h.es; wait = h.ws })
+  pub opens-journal : alone.opened (journal_of s) ≡ Ok (record { stand = h.es; wait = h.ws })
   unfolding alone.opened
   opens-journal = rw (numbers_fit_lem, journal_is)
 
@@ -137,7 +138,7 @@ moved s f n = with_file s n f
 
 -- an edit from the journal
 replay : (s : State) (e : Edit) (n : ℕ) (f g : List ℕ) → content s ≡ f → stands e f ≡ true → spliced e f ≡ g → file_fits (length s.file) g ≡ true → well_formed g ≡ true
-    → replayed s e n ≡ given (moved s g n)
+    → replayed s e n ≡ Ok (moved s g n)
 unfolding replayed replayed_in
 replay s e n f g t u v w x = rw (t, u, v, w, x)
 
@@ -177,7 +178,7 @@ unfolding undo
 step-undo s b h = by b.standing h.es refl refl h.stood
   where
     by : (qs : List (Authored Request)) (es : List (Authored Edit)) → b.standing ≡ qs → h.es ≡ es → Past b.file_room b.start qs es → Step s b Undo
-    by [] [] i j p = step_by s b Undo (refused NothingLeft) (refused NothingLeft) (rw (opens s b h, j)) (rw i) refl h
+    by [] [] i j p = step_by s b Undo (Err NothingLeft) (Err NothingLeft) (rw (opens s b h, j)) (rw i) refl h
     by [] (e ∷ es) i j p = absurd p
     by (q ∷ qs) [] i j p = absurd p
     by (q ∷ qs) (e ∷ es) i j p =
@@ -186,7 +187,7 @@ step-undo s b h = by b.standing h.es refl refl h.stood
         let r = replay s (turned e.what) (s.standing - edit_length e) (spliced e.what f) f (h.text ∙ a) (edit-undo-stands f q.what e.what p.0.asked) (edit-undone f q.what e.what p.0.asked) (rw h.room p.0.fits-before) p.0.well-before in
         let l : s.standing ≡ lengths es + edit_length e = h.standing ∙ ap lengths j in
         let n : s.standing - edit_length e ≡ lengths es = omega arith in
-        step_by s b Undo (given (moved s f (s.standing - edit_length e))) (given (with_lists b qs (q ∷ b.waiting))) (rw (opens s b h, j) r) (rw i) refl
+        step_by s b Undo (Ok (moved s f (s.standing - edit_length e))) (Ok (with_lists b qs (q ∷ b.waiting))) (rw (opens s b h, j) r) (rw i) refl
         (rep-moved s b h qs (q ∷ b.waiting) es (e ∷ h.ws) f (s.standing - edit_length e) (ap (λ (l : List (Authored Edit)). reverse_aux l h.ws) (sym j)) n refl p.0.fits-before p.0.well-before p.1 (p.0, rw a at h.waits))
 
 step-redo : (s : State) (b : Book) → Rep s b → Step s b Redo
@@ -194,7 +195,7 @@ unfolding redo
 step-redo s b h = by b.waiting h.ws refl refl h.waits
   where
     by : (qs : List (Authored Request)) (ws : List (Authored Edit)) → b.waiting ≡ qs → h.ws ≡ ws → Next b.file_room (book_file b) qs ws → Step s b Redo
-    by [] [] i j p = step_by s b Redo (refused NothingLeft) (refused NothingLeft) (rw (opens s b h, j)) (rw i) refl h
+    by [] [] i j p = step_by s b Redo (Err NothingLeft) (Err NothingLeft) (rw (opens s b h, j)) (rw i) refl h
     by [] (e ∷ es) i j p = absurd p
     by (q ∷ qs) [] i j p = absurd p
     by (q ∷ qs) (e ∷ ws) i j p =
@@ -202,7 +203,7 @@ step-redo s b h = by b.waiting h.ws refl refl h.waits
         let a = after_is b.start q b.standing e.what p.0.asked in
         let r = replay s e.what (s.standing + edit_length e) f (spliced e.what f) h.text (edit-stands f q.what e.what p.0.asked) refl (rw h.room p.0.fits_after) p.0.well-after in
         let n : s.standing + edit_length e ≡ lengths h.es + edit_length e = ap (λ (m : ℕ). m + edit_length e) h.standing in
-        step_by s b Redo (given (moved s (spliced e.what f) (s.standing + edit_length e))) (given (with_lists b (q ∷ b.standing) qs)) (rw (opens s b h, j) r) (rw i) refl
+        step_by s b Redo (Ok (moved s (spliced e.what f) (s.standing + edit_length e))) (Ok (with_lists b (q ∷ b.standing) qs)) (rw (opens s b h, j) r) (rw i) refl
         (rep-moved s b h (q ∷ b.standing) qs (e ∷ h.es) ws (spliced e.what f) (s.standing + edit_length e) (ap (λ (l : List (Authored Edit)). reverse_aux h.es l) (sym j)) n (sym a) p.0.fits_after p.0.well-after (p.0, h.stood) p.1)
 
 -- ---- a request
@@ -230,7 +231,7 @@ module _ (s : State) (b : Book) (h : Rep s b) (e : Authored Edit) (k : s.standin
   written-length : length (over s.journal s.standing (record_bytes (edit_record e))) ≡ length s.journal
   written-length = length_over s.journal s.standing (record_bytes (edit_record e)) record-room
 
-rep-asked : (s : State) (b : Book) (q : Authored Request) (d : Edit) → Rep s b → person_of q.author < 65536 → edit_of (book_file b) q.what ≡ given d
+rep-asked : (s : State) (b : Book) (q : Authored Request) (d : Edit) → Rep s b → person_of q.author < 65536 → edit_of (book_file b) q.what ≡ Ok d
     → file_fits b.file_room (spliced d (book_file b)) ≡ true → record_fits b.journal_room (book_standing b) (by q.author d) ≡ true
     → Rep (requested s (book_file b) (by q.author d)) (with_lists b (q ∷ b.standing) [])
 rep-asked s b q d h p a x y =
@@ -279,17 +280,17 @@ unfolding request applied book_request
 step-do s b q p h = by-edit (edit_of (book_file b) q.what) refl
   where
     by-edit : (a : Answer Edit) → edit_of (book_file b) q.what ≡ a → Step s b (Do q)
-    by-edit (refused f) e = step_by s b (Do q) (refused f) (refused f) (rw (opens s b h, h.text, e)) (rw e) refl h
-    by-edit (given d) e = go (file_fits b.file_room (spliced d (book_file b))) (record_fits b.journal_room (book_standing b) (by q.author d)) refl refl
+    by-edit (Err f) e = step_by s b (Do q) (Err f) (Err f) (rw (opens s b h, h.text, e)) (rw e) refl h
+    by-edit (Ok d) e = go (file_fits b.file_room (spliced d (book_file b))) (record_fits b.journal_room (book_standing b) (by q.author d)) refl refl
       where
         n : book_standing b ≡ s.standing
         n = past-lengths b.file_room b.start b.standing h.es h.stood ∙ sym h.standing
 
         go : (x y : Bool) → file_fits b.file_room (spliced d (book_file b)) ≡ x → record_fits b.journal_room (book_standing b) (by q.author d) ≡ y → Step s b (Do q)
-        go false y u v = step_by s b (Do q) (refused NoRoom) (refused NoRoom) (rw (opens s b h, h.text, e, h.room, u)) (rw (e, u)) refl h
-        go true false u v = step_by s b (Do q) (refused JournalFull) (refused JournalFull) (rw (opens s b h, h.text, e, h.room, u, h.journal-room, ← n, v)) (rw (e, u, v)) refl h
+        go false y u v = step_by s b (Do q) (Err NoRoom) (Err NoRoom) (rw (opens s b h, h.text, e, h.room, u)) (rw (e, u)) refl h
+        go true false u v = step_by s b (Do q) (Err JournalFull) (Err JournalFull) (rw (opens s b h, h.text, e, h.room, u, h.journal-room, ← n, v)) (rw (e, u, v)) refl h
         go true true u v =
-            step_by s b (Do q) (given (requested s (book_file b) (by q.author d))) (given (with_lists b (q ∷ b.standing) []))
+            step_by s b (Do q) (Ok (requested s (book_file b) (by q.author d))) (Ok (with_lists b (q ∷ b.standing) []))
             (rw (opens s b h, h.text, e, h.room, u, h.journal-room, ← n, v)) (rw (e, u, v)) refl (rep-asked s b q d h p e u v)
 
 -- ---- forgetting
@@ -348,9 +349,9 @@ step-forget s b k h = go (leb k (length h.es)) refl
     n = past-length b.file_room b.start b.standing h.es h.stood
 
     go : (x : Bool) → leb k (length h.es) ≡ x → Step s b (Forget k)
-    go false u = step_by s b (Forget k) (refused NothingLeft) (refused NothingLeft) (rw (opens-journal s b h, u)) (rw (n, u)) refl h
+    go false u = step_by s b (Forget k) (Err NothingLeft) (Err NothingLeft) (rw (opens-journal s b h, u)) (rw (n, u)) refl h
     go true u =
-        step_by s b (Forget k) (given (with_journal s (without (lengths (oldest k h.es)) (journal_of s)))) (given (without_oldest b k))
+        step_by s b (Forget k) (Ok (with_journal s (without (lengths (oldest k h.es)) (journal_of s)))) (Ok (without_oldest b k))
         (rw (opens-journal s b h, u)) (rw (n, u)) refl (rep-forgot s b h k n)
 
 pub step : (s : State) (b : Book) (c : Call) → person_fits c ≡ true → Rep s b → Step s b c

@@ -1,9 +1,9 @@
 -- What the check tells of a bad line is so. Assumes nothing.
+use Rattle.std.specs.Prelude.{Option, Some, None, Err}
 use Prim.Native.Nat.{ℕ, suc, ◌+◌, ◌-◌}
 use native.Mathlib.Omega.{arith}
 use mathlib.Core.Path.{◌≡◌, refl, ap, ◌∙◌}
 use mathlib.Core.Bool.{Bool, true, false}
-use mathlib.Core.Option.{Option, none, some}
 use mathlib.Core.List.{List, [], ◌∷◌, ◌++◌}
 use lib.ListN.{length, get_or, length-append}
 use lib.Seq.{take_at, get_or-append_seam}
@@ -14,7 +14,7 @@ use Rattle.base.specs.Lists.{any, first}
 use Rattle.base.proofs.Tests.{no}
 use Rattle.fault.specs.declared.Fault.{Fault}
 use Rattle.fault.specs.declared.Fault.TheVariants.{TooLong, BadLine, FirstGroup, RepeatedGroup, RepeatedKey, NoPlainKey}
-use Rattle.fault.specs.Answer.{refused, unless}
+use Rattle.fault.specs.Answer.{unless}
 use Rattle.fault.proofs.Answers.{unless-refused}
 use Rattle.fault.proofs.Refusals.{IfRefused, if-test, if_none, Not2, came-later, came-first}
 use Rattle.line.specs.declared.Line.{Line}
@@ -35,11 +35,11 @@ plain-not2 : (rs : List Row) → IfRefused Not2 (plain_all rs)
 unfolding plain_all
 plain-not2 rs = if_none Not2 (first (no_plain rs) rs) (λ r. NoPlainKey r.line) (λ r. refl)
 
-earliest-told : (leading file : List ℕ) (line byte : ℕ) → check_as leading file ≡ refused (BadLine line byte) → earliest leading [] (read_rows file) ≡ some (BadLine line byte)
+earliest-told : (leading file : List ℕ) (line byte : ℕ) → check_as leading file ≡ Err (BadLine line byte) → earliest leading [] (read_rows file) ≡ Some (BadLine line byte)
 unfolding check_as titled_as
 earliest-told leading file line byte e =
     let rs : List Row = read_rows file in
-    let titled : titled_as leading rs ≡ refused (BadLine line byte) =
+    let titled : titled_as leading rs ≡ Err (BadLine line byte) =
     came-first (titled_as leading rs) _ line byte (λ _. plain-not2 rs) (came-later (leb (length file) file_most) TooLong _ line byte refl e) in
     unless-refused (earliest leading [] rs) (BadLine line byte)
     (came-first (unless (earliest leading [] rs)) _ line byte (λ _. if-test Not2 (any (λ r. is_group (title r)) rs) (FirstGroup 0) refl) titled)
@@ -58,16 +58,16 @@ record Stands (n : ℕ) (rs : List (List ℕ)) (line byte : ℕ) : Type 0 where
 
 -- a row's title is never the cause
 not-title : (leading : List ℕ) (seen : List Title) (t : Title) (n : ℕ) (again : Fault) (later : Option Fault) (line byte : ℕ) → (again ≡ BadLine line byte → ⊥)
-    → maybe (title_fault leading seen t n again) later some ≡ some (BadLine line byte) → later ≡ some (BadLine line byte)
+    → maybe (title_fault leading seen t n again) later Some ≡ Some (BadLine line byte) → later ≡ Some (BadLine line byte)
 unfolding title_fault
 not-title leading [] t n again later line byte k e = go (same_title t (Group leading)) e
   where
-    go : (x : Bool) → maybe (pick x none (some (FirstGroup n))) later some ≡ some (BadLine line byte) → later ≡ some (BadLine line byte)
+    go : (x : Bool) → maybe (pick x None (Some (FirstGroup n))) later Some ≡ Some (BadLine line byte) → later ≡ Some (BadLine line byte)
     go true e = e
     go false e = no (cc)
 not-title leading (s ∷ seen) t n again later line byte k e = go (any (same_title t) (s ∷ seen)) e
   where
-    go : (x : Bool) → maybe (pick x (some again) none) later some ≡ some (BadLine line byte) → later ≡ some (BadLine line byte)
+    go : (x : Bool) → maybe (pick x (Some again) None) later Some ≡ Some (BadLine line byte) → later ≡ Some (BadLine line byte)
     go true e = absurd (k (cc))
     go false e = e
 
@@ -85,7 +85,7 @@ module _ (leading : List ℕ) (line byte : ℕ) where
         before = rw (g, w.before);
       }
 
-  stands : (rs : List (List ℕ)) (n at : ℕ) (g : List ℕ) (seen : List Title) → earliest leading seen (rows_from n at g rs) ≡ some (BadLine line byte) → Stands n rs line byte
+  stands : (rs : List (List ℕ)) (n at : ℕ) (g : List ℕ) (seen : List Title) → earliest leading seen (rows_from n at g rs) ≡ Some (BadLine line byte) → Stands n rs line byte
   unfolding earliest rows_from any
   stands [] n at g seen e = no (cc)
   stands (r ∷ rs) n at g seen e = go (read_line (line_of r)) refl e (stands rs (suc n) (at + length r) (group_after g (line_of r) (read_line (line_of r))) (seeing t seen))
@@ -96,8 +96,8 @@ module _ (leading : List ℕ) (line byte : ℕ) where
       later : Option Fault
       later = earliest leading (seeing t seen) (rows_from (suc n) (at + length r) (group_after g (line_of r) (read_line (line_of r))) rs)
 
-      go : (l : Line) → read_line (line_of r) ≡ l → maybe (row_fault leading seen t n l) later some ≡ some (BadLine line byte)
-          → (later ≡ some (BadLine line byte) → Stands (suc n) rs line byte) → Stands n (r ∷ rs) line byte
+      go : (l : Line) → read_line (line_of r) ≡ l → maybe (row_fault leading seen t n l) later Some ≡ Some (BadLine line byte)
+          → (later ≡ Some (BadLine line byte) → Stands (suc n) rs line byte) → Stands n (r ∷ rs) line byte
       go Blank i e k = after n r rs (ap is_bad i) (k e)
       go Comment i e k = after n r rs (ap is_bad i) (k e)
       go (Header h) i e k = after n r rs (ap is_bad i) (k (not-title leading seen t n (RepeatedGroup n) later line byte (λ z. no (cc)) e))

@@ -1,13 +1,13 @@
 -- A batch is the single calls tried, and the number done is by how many the standing records grew. Assumes nothing.
+use Rattle.std.specs.Prelude.{Some, None, Ok, Err}
 use mathlib.Core.Path.{◌≡◌, refl, sym, ap, ◌∙◌}
 use Prim.Native.Nat.{ℕ, suc, ◌+◌}
 use native.Mathlib.Omega.{arith}
-use mathlib.Core.Option.{none, some}
 use mathlib.Core.List.{List, [], ◌∷◌, ◌++◌}
 use lib.ListN.{length}
 use Rattle.base.proofs.Tests.{no}
 use Rattle.fault.specs.declared.Fault.{Fault}
-use Rattle.fault.specs.Answer.{Answer, given, refused, unless, at_exit}
+use Rattle.fault.specs.Answer.{Answer, unless, at_exit}
 use Rattle.change.specs.Change.{Request}
 use Rattle.journal.specs.Journal.{Author, by, Journal}
 use Rattle.edit.specs.Calls.{State, opened, request}
@@ -44,17 +44,17 @@ more-calls {s} {cs = cs} {ds = ds} v w =
 -- ---- the single calls of a batch
 
 -- what holds of no request, of a refused one, and of one more that is done, holds of requests in turn
-module _ (author : Author) (Holds : List Request → State → Batch → Type 0) (of_none : (s : State) → Holds [] s (nothing s none))
-    (of-refused : (q : Request) (qs : List Request) (s : State) (f : Fault) → request s (by author q) ≡ refused f → Holds (q ∷ qs) s (nothing s (some f)))
-    (of-done : (q : Request) (qs : List Request) (s t : State) (b : Batch) → request s (by author q) ≡ given t → Holds qs t b → Holds (q ∷ qs) s (one_more b)) where
+module _ (author : Author) (Holds : List Request → State → Batch → Type 0) (of_none : (s : State) → Holds [] s (nothing s None))
+    (of-refused : (q : Request) (qs : List Request) (s : State) (f : Fault) → request s (by author q) ≡ Err f → Holds (q ∷ qs) s (nothing s (Some f)))
+    (of-done : (q : Request) (qs : List Request) (s t : State) (b : Batch) → request s (by author q) ≡ Ok t → Holds qs t b → Holds (q ∷ qs) s (one_more b)) where
   pub in-turn : (qs : List Request) (s : State) → Holds qs s (in_turn author qs s)
   unfolding in_turn
   in-turn [] s = of_none s
   in-turn (q ∷ qs) s = go (request s (by author q)) refl (in-turn qs)
     where
       go : (a : Answer State) → request s (by author q) ≡ a → ((t : State) → Holds qs t (in_turn author qs t)) → Holds (q ∷ qs) s (after s a (in_turn author qs))
-      go (refused f) e h = of-refused q qs s f e
-      go (given t) e h = of-done q qs s t (in_turn author qs t) e (h t)
+      go (Err f) e h = of-refused q qs s f e
+      go (Ok t) e h = of-done q qs s t (in_turn author qs t) e (h t)
 
 -- one more is told of
 one_more_lem : (n : ℕ) (t : Told) → each_told (suc n) t ≡ Accepted ∷ each_told n t
@@ -78,7 +78,7 @@ pub batch-does-all : BatchDoesAll
 unfolding BatchDoesAll batch
 batch-does-all s author list qs h =
     rw h
-    (in-turn author (λ qs s b. b.stopped ≡ none → b.done ≡ length qs) (λ s i. refl) (λ q qs s f e i. no (cc)) (λ q qs s t b e w i. ap suc (w i)) qs s)
+    (in-turn author (λ qs s b. b.stopped ≡ None → b.done ≡ length qs) (λ s i. refl) (λ q qs s f e i. no (cc)) (λ q qs s t b e w i. ap suc (w i)) qs s)
 
 pub batch-refused-at-first : BatchRefusedAtFirst
 unfolding BatchRefusedAtFirst batch
@@ -88,16 +88,16 @@ batch-refused-at-first s author list f h = rw h
 
 -- what is left opens again, and so many more stand
 abbrev Grew : Batch → Journal → Type 0
-Grew b j = (k : Journal) × (opened b.state ≡ given k) × (length k.stand ≡ length j.stand + b.done)
+Grew b j = (k : Journal) × (opened b.state ≡ Ok k) × (length k.stand ≡ length j.stand + b.done)
 
 pub batch-grew : BatchGrew
 unfolding BatchGrew batch
 batch-grew s author list j p h = go (listed s list)
   where
     go : (a : Answer (List Request)) → Grew (begun s author a) j
-    go (refused f) = (j, h, omega arith)
-    go (given qs) =
-        in-turn author (λ qs s b. (j : Journal) → opened s ≡ given j → Grew b j)
+    go (Err f) = (j, h, omega arith)
+    go (Ok qs) =
+        in-turn author (λ qs s b. (j : Journal) → opened s ≡ Ok j → Grew b j)
         (λ s j h. (j, h, omega arith))
         (λ q qs s f e j h. (j, h, omega arith))
         (λ q qs s t b e w j h.

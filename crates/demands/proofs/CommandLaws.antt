@@ -1,16 +1,17 @@
 -- Pupils' files reach the program as they are. Assumes nothing.
+use Rattle.std.proofs.lemmas.Option.{same_Some}
+use Rattle.std.specs.Prelude.{Ok, Err}
 use Prim.Native.Nat.{ℕ, zero, suc, ◌≤◌, ◌<◌}
 use native.Mathlib.Omega.{arith}
 use mathlib.Core.Path.{◌≡◌, refl, sym, ap, ◌∙◌}
 use mathlib.Core.Bool.{Bool, true, false, not, ◌&&◌}
-use mathlib.Core.Option.{some-injective}
 use mathlib.Core.List.{List, [], ◌∷◌, ◌++◌}
 use lib.ListN.{length, get_or}
 use lib.Dec.{eqb, eqb-suc-zero}
 use Rattle.base.specs.Choice.{pick}
 use Rattle.base.specs.Lists.{ascii, any, all}
 use Rattle.fault.specs.declared.Fault.TheVariants.{Missing}
-use Rattle.fault.specs.Answer.{given, refused, ◌>>=◌, accepted}
+use Rattle.fault.specs.Answer.{◌>>=◌, accepted}
 use Rattle.fault.proofs.Answers.{bind-given, some-given, given_is}
 use Rattle.record.specs.Record.{list_of}
 use Rattle.text.specs.Escape.{read_text}
@@ -32,10 +33,10 @@ use Rattle.demands.proofs.Lengths.{output-back, items-short, each_at, one-reads}
 module _ {by : Expander} (w : Known by) where
   -- ---- the command
 
-  sound-command : {file locale location : List ℕ} (s : Sound w file locale location) → command_in by.group file ≡ given s.command
+  sound-command : {file locale location : List ℕ} (s : Sound w file locale location) → command_in by.group file ≡ Ok s.command
   sound-command s = rw (s.found, s.unescaped, s.read)
 
-  one_code : (file : List ℕ) (command : List Argument) → command_in by.group file ≡ given command → all_file_codes command ≤ 1
+  one_code : (file : List ℕ) (command : List Argument) → command_in by.group file ≡ Ok command → all_file_codes command ≤ 1
   one_code file command e =
       let a = some-given (find_row (read_rows file) (Key by.group (ascii "Exec"))) Missing (λ r. (read_text (raw_value r) >>= read_command)) command e in
       let b = bind-given (read_text (raw_value a.0)) read_command command a.2 in
@@ -56,7 +57,7 @@ module _ {by : Expander} (w : Known by) where
       let p = passed w file locale location list run out x.is in
       let s = p.sound in
       let c : s.command ≡ x.command = given_is _ _ (sym (sound-command s) ∙ x.commanded) in
-      let f : p.items ≡ x.files = some-injective _ _ (sym p.listed.reads ∙ x.listed) in
+      let f : p.items ≡ x.files = same_Some _ _ (sym p.listed.reads ∙ x.listed) in
       let w : Listed list x.files = rw (← f) p.listed in
       let e : out ≡ list_of 3 (arguments_of s x.files run) = rw (← f) p.written in
       record {
@@ -64,10 +65,10 @@ module _ {by : Expander} (w : Known by) where
         commanded = c;
         listed = w;
         written = e;
-        is = some-injective _ _ (sym x.reads_back ∙ output-back s x.files w run e);
+        is = same_Some _ _ (sym x.reads_back ∙ output-back s x.files w run e);
       }
 
-  read_back : (file locale location list : List ℕ) (run : ℕ) (out : List ℕ) → by.expansion file locale location list run ≡ given out → Expansion by file locale location list run out
+  read_back : (file locale location list : List ℕ) (run : ℕ) (out : List ℕ) → by.expansion file locale location list run ≡ Ok out → Expansion by file locale location list run out
   read_back file locale location list run out e =
       let p = passed w file locale location list run out e in
       let s = p.sound in
@@ -101,7 +102,7 @@ module _ {by : Expander} (w : Known by) where
           run_in file locale location command [] [],
           λ list run out x c.
               expansion-is file locale location command x c
-              ∙ files-framed _ location _ (get_or x.files run []) x.files front back (one_code file command (x.commanded ∙ ap given c)),
+              ∙ files-framed _ location _ (get_or x.files run []) x.files front back (one_code file command (x.commanded ∙ ap Ok c)),
         )
 
     module _ (quoted : Bool) (left right : List Piece) where
@@ -113,7 +114,7 @@ module _ {by : Expander} (w : Known by) where
             run_in file locale location command [] [],
             λ list run out x c h.
                 expansion-is file locale location command x c
-                ∙ item-framed _ location _ (get_or x.files run []) x.files front back quoted left right (one_code file command (x.commanded ∙ ap given c))
+                ∙ item-framed _ location _ (get_or x.files run []) x.files front back quoted left right (one_code file command (x.commanded ∙ ap Ok c))
                 (fit-some (get_or x.files run []) (all-at fit_item x.files run (seen x).listed.fit h)),
           )
 
@@ -126,7 +127,7 @@ module _ {by : Expander} (w : Known by) where
 
   alone : (file locale location list : List ℕ) (run : ℕ) (out : List ℕ) (x : Expansion by file locale location list run out)
       → takes_item x.command ≡ true → run < length x.files
-      → by.expansion file locale location (list_of 2 (get_or x.files run [] ∷ [])) 0 ≡ given out
+      → by.expansion file locale location (list_of 2 (get_or x.files run [] ∷ [])) 0 ≡ Ok out
   unfolding runs all
   alone file locale location list run out x i h =
       let k = seen x in
@@ -140,7 +141,7 @@ module _ {by : Expander} (w : Known by) where
       let y : Expansion by file locale location (list_of 2 (item ∷ [])) 0 (list_of 3 (arguments_of s (item ∷ []) 0)) =
       record { command = s.command; files = item ∷ []; args = arguments_of s (item ∷ []) 0; commanded = sound-command s; listed = one.reads; is = a; reads_back = output-back s (item ∷ []) one 0 refl } in
       let same = f (list_of 2 (item ∷ [])) 0 (list_of 3 (arguments_of s (item ∷ []) 0)) y (k.commanded ∙ v.is) (omega arith) ∙ sym (f list run out x v.is h) in
-      a ∙ ap (λ (l : List (List ℕ)). given (list_of 3 l)) (same ∙ k.is) ∙ ap given (sym k.written)
+      a ∙ ap (λ (l : List (List ℕ)). Ok (list_of 3 l)) (same ∙ k.is) ∙ ap Ok (sym k.written)
 
   -- ---- the runs
 
@@ -152,7 +153,7 @@ module _ {by : Expander} (w : Known by) where
 
   numbered : (file locale location list : List ℕ) (run : ℕ) (out : List ℕ) (x : Expansion by file locale location list run out) (n : ℕ)
       → (n < run_count x.command (length x.files) → accepted (by.expansion file locale location list n) ≡ true)
-      × (run_count x.command (length x.files) ≤ n → by.expansion file locale location list n ≡ refused Missing)
+      × (run_count x.command (length x.files) ≤ n → by.expansion file locale location list n ≡ Err Missing)
   unfolding runs
   numbered file locale location list run out x n =
       let k = seen x in

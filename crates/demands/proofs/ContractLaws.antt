@@ -1,4 +1,5 @@
 -- Calls that met their contracts tell what the definitions tell and leave what these leave, so demand 3 holds of them. Assumes nothing.
+use Rattle.std.specs.Prelude.{Ok, Err}
 use mathlib.Core.Path.{◌≡◌, refl, sym, ap, ◌∙◌}
 use Prim.Native.Nat.{ℕ}
 use mathlib.Core.Bool.{true, false≢true}
@@ -9,7 +10,7 @@ use Rattle.base.proofs.Tests.{all_weaker}
 use Rattle.fault.specs.declared.Fault.{Fault}
 use Rattle.fault.specs.declared.Fault.TheVariants.{TooLong, BadLine, FirstGroup, RepeatedGroup, RepeatedKey, NoPlainKey, BadArgument, Missing, BadEscape, UnfitText, NoRoom, NothingLeft, JournalFull, Damaged, BadExec, BadCode, PostfixesRemain, Incomplete}
 use Rattle.fault.specs.Table.{number_of, place_of, byte_of}
-use Rattle.fault.specs.Answer.{Answer, given, refused, then, at_exit}
+use Rattle.fault.specs.Answer.{Answer, then, at_exit}
 use Rattle.journal.specs.Journal.{Author, NoPerson, Person, by, kind_of}
 use Rattle.journal.specs.Lent as alone
 use Rattle.journal.specs.Lent.{Lent, forget}
@@ -65,13 +66,13 @@ as-made {s} (edited.Refused f) m =
 -- ---- `journal::forget`
 
 told-then : {A B : Type 0} (h : A → B) (a : Answer A) → told a ≡ told (then h a)
-told-then h (given x) = refl
-told-then h (refused f) = refl
+told-then h (Ok x) = refl
+told-then h (Err f) = refl
 
 leaves-forgot : (s : State) (a : Answer Lent) (journal : List ℕ) → journal ≡ (at_exit (journal_of s) a).journal
     → with_journal s (at_exit (alone.lent journal s.used s.standing) a) ≡ at_exit s (then (with_journal s) a)
-leaves-forgot s (given t) journal h = refl
-leaves-forgot s (refused f) journal h = rw h
+leaves-forgot s (Ok t) journal h = refl
+leaves-forgot s (Err f) journal h = rw h
 
 -- ---- `batch::batch`
 
@@ -116,15 +117,15 @@ refused-in PostfixesRemain = refl
 refused-in (Incomplete line) = refl
 
 told_in_lem : {A : Type 0} (a : Answer A) → told_in (code_of a) (place_in a) (byte_in a) ≡ told a
-told_in_lem (given t) = refl
-told_in_lem (refused f) = refused-in f
+told_in_lem (Ok t) = refl
+told_in_lem (Err f) = refused-in f
 
 told-returned : {A : Type 0} (a : Answer A) {code place byte : ℕ} → Returned a code place byte → told_in code place byte ≡ told a
 told-returned a w = rw (w.code_is, w.place_is, w.byte_is) (told_in_lem a)
 
 left-forgot : (s : State) (a : Answer Lent) → with_journal s (at_exit (journal_of s) a) ≡ at_exit s (then (with_journal s) a)
-left-forgot s (given t) = refl
-left-forgot s (refused f) = refl
+left-forgot s (Ok t) = refl
+left-forgot s (Err f) = refl
 
 pub demand3-of-exports : Demand3OfExports
 unfolding Demand3OfExports

@@ -1,13 +1,13 @@
 -- An accepted set or remove leaves a well-formed file, is read back, and changes what no other key reads. Assumes nothing.
+use Rattle.std.specs.Prelude.{Option, Some, None, option_map, Ok, Err}
 use mathlib.Core.Path.{◌≡◌, refl, sym, ap, ◌∙◌}
 use Prim.Native.Nat.{ℕ}
 use mathlib.Core.Bool.{true, false, ◌&&◌}
-use mathlib.Core.Option.{Option, none, some, map}
 use mathlib.Core.List.{List, []}
 use Rattle.base.specs.Lists.{part}
 use Rattle.base.proofs.Tests.{no, by-test}
 use Rattle.fault.specs.declared.Fault.TheVariants.{BadArgument, Missing}
-use Rattle.fault.specs.Answer.{Answer, given, refused, ◌>>=◌, some_or, then}
+use Rattle.fault.specs.Answer.{Answer, ◌>>=◌, some_or, then}
 use Rattle.text.specs.Escape.{raw_text}
 use Rattle.text.proofs.ReadBack.{read_back}
 use Rattle.line.specs.Form.{group_form, key_form}
@@ -40,12 +40,12 @@ lookup-reads f group key h k =
     ap (then (λ e. part e.from e.to f)) (lookup-is f group key h k) ∙ rw (← value-file f (Key group key)) (by_row (find_row (read_rows f) (Key group key)) refl)
   where
     by_row : (o : Option Row) → find_row (read_rows f) (Key group key) ≡ o
-        → then (λ e. part e.from e.to f) (some_or o Missing >>= (λ r. given (value_ends r))) ≡ some_or (map raw_value o) Missing
-    by_row none z = refl
-    by_row (some r) z = ap given (row-stands f (Key group key) r z)
+        → then (λ e. part e.from e.to f) (some_or o Missing >>= (λ r. Ok (value_ends r))) ≡ some_or (option_map raw_value o) Missing
+    by_row None z = refl
+    by_row (Some r) z = ap Ok (row-stands f (Key group key) r z)
 
 -- with arguments of another form it is refused
-lookup-formless : (f group key : List ℕ) → well_formed f ≡ true → (group_form group && key_form key) ≡ false → handed f group key ≡ refused BadArgument
+lookup-formless : (f group key : List ℕ) → well_formed f ≡ true → (group_form group && key_form key) ≡ false → handed f group key ≡ Err BadArgument
 unfolding lookup
 lookup-formless f group key h k = rw (checks f h, k)
 
@@ -64,8 +64,8 @@ lookup-alike t f h group key u w a n =
 
 -- the value that the entry of a request then has
 abbrev new_value : Request → Option (List ℕ)
-new_value (Set group key text) = some (raw_text text)
-new_value (Remove group key) = none
+new_value (Set group key text) = Some (raw_text text)
+new_value (Remove group key) = None
 
 -- what an accepted request leaves
 pub record Leaves (s t : State) (q : Request) : Type 0 where
@@ -74,10 +74,10 @@ pub record Leaves (s t : State) (q : Request) : Type 0 where
   pub own : value_in (asked_entry q) [] (lines_of (content t)) ≡ new_value q
   pub others : AlikeBut (asked_entry q) (lines_of (content t)) (lines_of (content s))
 
-pub leaves : (s t : State) (q : Authored Request) → request s q ≡ given t → Leaves s t q.what
+pub leaves : (s t : State) (q : Authored Request) → request s q ≡ Ok t → Leaves s t q.what
 leaves s t q h = let d = done s t q h in left_by_lem d (after q.what d.edit d.edits d.well)
   where
-    after : (q : Request) (e : Edit) → edit_of (content s) q ≡ given e → well_formed (content s) ≡ true → After desktop_entry e (content s) (asked_entry q) (new_value q)
+    after : (q : Request) (e : Edit) → edit_of (content s) q ≡ Ok e → well_formed (content s) ≡ true → After desktop_entry e (content s) (asked_entry q) (new_value q)
     after (Set group key text) e i w = after-set desktop_entry (content s) group key text e w (set-of (content s) group key text e i)
     after (Remove group key) e i w = after-remove desktop_entry (content s) group key e w (remove-of (content s) group key e i)
 
@@ -97,7 +97,7 @@ others-read-as-before s t q group key h n =
     lookup-alike (asked_entry q.what) (content t) (content s) group key l.well l.well-before l.others n
 
 -- what lookup of its own entry hands back
-own-reads : (s t : State) (q : Authored Request) (group key : List ℕ) → asked_entry q.what ≡ Key group key → (group_form group && key_form key) ≡ true → request s q ≡ given t
+own-reads : (s t : State) (q : Authored Request) (group key : List ℕ) → asked_entry q.what ≡ Key group key → (group_form group && key_form key) ≡ true → request s q ≡ Ok t
     → handed (content t) group key ≡ some_or (new_value q.what) Missing
 own-reads s t q group key i c h =
     let l = leaves s t q h in
@@ -119,9 +119,9 @@ removed-is-missing s t author group key h =
     let c = (remove-of (content s) group key d.edit d.edits).form in
     by_answer (lookup (content t) group key) (own-reads s t q group key refl c h)
   where
-    by_answer : (a : Answer Extent) → then (λ e. part e.from e.to (content t)) a ≡ refused Missing → a ≡ refused Missing
-    by_answer (given e) i = no (cc)
-    by_answer (refused f) i = ap refused (cc)
+    by_answer : (a : Answer Extent) → then (λ e. part e.from e.to (content t)) a ≡ Err Missing → a ≡ Err Missing
+    by_answer (Ok e) i = no (cc)
+    by_answer (Err f) i = ap Err (cc)
 
 pub turned_round : TurnedRound
 unfolding TurnedRound

@@ -1,9 +1,9 @@
 -- What an accepted expansion passed: every question of its definition, in order; and what passed them is accepted. Assumes nothing.
+use Rattle.std.specs.Prelude.{Some, Ok, Err}
 use Prim.Native.Nat.{ℕ, zero, suc, ◌≤◌, ◌<◌}
 use native.Mathlib.Omega.{arith}
 use mathlib.Core.Path.{◌≡◌, refl, sym, ◌∙◌}
 use mathlib.Core.Bool.{Bool, true}
-use mathlib.Core.Option.{some}
 use mathlib.Core.List.{List, [], ◌∷◌}
 use lib.ListN.{length, get_or}
 use borrow.Author.Tests.{ltb-true, lt-ltb, le-ltb, eq-eqb}
@@ -11,7 +11,7 @@ use Rattle.base.specs.Bounds.{list_most}
 use Rattle.base.specs.Lists.{ascii, same, any, all}
 use Rattle.base.proofs.Tests.{no, and_both}
 use Rattle.fault.specs.declared.Fault.TheVariants.{Missing}
-use Rattle.fault.specs.Answer.{Answer, given, refused, ◌>>=◌, need}
+use Rattle.fault.specs.Answer.{Answer, ◌>>=◌, need}
 use Rattle.fault.proofs.Answers.{bind-given, need-given, some-given, given_is}
 use Rattle.record.specs.Record.{read_list, list_of}
 use Rattle.text.specs.Escape.{read_text}
@@ -30,11 +30,11 @@ use Rattle.demands.specs.Commands.{Expander, of_application, of_action}
 pub record Known (by : Expander) : Type 0 where
   pub asks : List ℕ → Answer (Unit {0})
   pub is : (file locale location list : List ℕ) (run : ℕ) → by.expansion file locale location list run
-      ≡ (asked_items file locale location list >>= λ items. (asks file >>= λ _. (group_arguments (read_rows file) by.group locale location items run >>= λ args. given (list_of 3 args))))
+      ≡ (asked_items file locale location list >>= λ items. (asks file >>= λ _. (group_arguments (read_rows file) by.group locale location items run >>= λ args. Ok (list_of 3 args))))
 
 pub application-known : Known of_application
 unfolding expand
-application-known = record { asks = λ file. given tt; is = λ file locale location list run. refl }
+application-known = record { asks = λ file. Ok tt; is = λ file locale location list run. refl }
 
 -- an action's asks whether it is listed
 pub action-known : (id : List ℕ) → Known (of_action id)
@@ -46,32 +46,32 @@ action-known id =
     }
   where
     go : (file locale location : List ℕ) (run : ℕ) (a b : Answer (List (List ℕ)))
-        → (a >>= λ items. (b >>= λ ids. (need (any (same id) ids) Missing >>= λ _. (group_arguments (read_rows file) (action_group id) locale location items run >>= λ args. given (list_of 3 args)))))
-        ≡ (a >>= λ items. ((b >>= λ ids. need (any (same id) ids) Missing) >>= λ _. (group_arguments (read_rows file) (action_group id) locale location items run >>= λ args. given (list_of 3 args))))
-    go file locale location run (refused f) b = refl
-    go file locale location run (given items) (refused f) = refl
-    go file locale location run (given items) (given ids) = refl
+        → (a >>= λ items. (b >>= λ ids. (need (any (same id) ids) Missing >>= λ _. (group_arguments (read_rows file) (action_group id) locale location items run >>= λ args. Ok (list_of 3 args)))))
+        ≡ (a >>= λ items. ((b >>= λ ids. need (any (same id) ids) Missing) >>= λ _. (group_arguments (read_rows file) (action_group id) locale location items run >>= λ args. Ok (list_of 3 args))))
+    go file locale location run (Err f) b = refl
+    go file locale location run (Ok items) (Err f) = refl
+    go file locale location run (Ok items) (Ok ids) = refl
 
 -- the file, the locale and the location are in order, and so is the command with its texts, whatever the list
 pub record Sound {by : Expander} (k : Known by) (file locale location : List ℕ) : Type 0 where
-  pub checks : check file ≡ given tt
+  pub checks : check file ≡ Ok tt
   pub form : locale_form locale ≡ true
   pub placed : fit_location location ≡ true
-  pub allowed : k.asks file ≡ given tt
+  pub allowed : k.asks file ≡ Ok tt
   pub row : Row
-  pub found : find_row (read_rows file) (Key by.group (ascii "Exec")) ≡ some row
+  pub found : find_row (read_rows file) (Key by.group (ascii "Exec")) ≡ Some row
   pub exec : List ℕ
-  pub unescaped : read_text (raw_value row) ≡ given exec
+  pub unescaped : read_text (raw_value row) ≡ Ok exec
   pub command : List Argument
-  pub read : read_command exec ≡ given command
+  pub read : read_command exec ≡ Ok command
   pub name : List ℕ
-  pub named : name_text (read_rows file) locale (any (has_piece is_name) command) ≡ given name
+  pub named : name_text (read_rows file) locale (any (has_piece is_name) command) ≡ Ok name
   pub icon : List ℕ
-  pub icon-read : icon_text (read_rows file) by.group locale (any is_icon command) ≡ given icon
+  pub icon-read : icon_text (read_rows file) by.group locale (any is_icon command) ≡ Ok icon
 
 -- a list whose items are in order
 pub record Listed (list : List ℕ) (items : List (List ℕ)) : Type 0 where
-  pub reads : read_list 2 list_most list ≡ some items
+  pub reads : read_list 2 list_most list ≡ Some items
   pub fit : all fit_item items ≡ true
 
 -- an item of it, which is not empty
@@ -98,7 +98,7 @@ pub record Passed {by : Expander} (k : Known by) (file locale location list : Li
   pub written : out ≡ list_of 3 (arguments_of sound items run)
 
 module _ {by : Expander} (w : Known by) (file locale location list : List ℕ) (run : ℕ) where
-  pub passed : (out : List ℕ) → by.expansion file locale location list run ≡ given out → Passed w file locale location list run out
+  pub passed : (out : List ℕ) → by.expansion file locale location list run ≡ Ok out → Passed w file locale location list run out
   unfolding asked_items group_arguments run_arguments
   passed out e =
       let a = bind-given (asked_items file locale location list) _ out (sym (w.is file locale location list run) ∙ e) in
@@ -143,14 +143,14 @@ module _ {by : Expander} (w : Known by) (file locale location list : List ℕ) (
       }
 
   pub accepts : (s : Sound w file locale location) (items : List (List ℕ)) → Listed list items → run < runs s.command (length items)
-      → by.expansion file locale location list run ≡ given (list_of 3 (arguments_of s items run))
+      → by.expansion file locale location list run ≡ Ok (list_of 3 (arguments_of s items run))
   unfolding asked_items group_arguments run_arguments
   accepts s items l h =
       w.is file locale location list run
       ∙ rw (s.checks, l.reads, s.form, l.fit, s.placed, s.allowed, s.found, s.unescaped, s.read, lt-ltb run (runs s.command (length items)) h, s.named, s.icon-read)
 
   pub refuses : (s : Sound w file locale location) (items : List (List ℕ)) → Listed list items → runs s.command (length items) ≤ run
-      → by.expansion file locale location list run ≡ refused Missing
+      → by.expansion file locale location list run ≡ Err Missing
   unfolding asked_items group_arguments run_arguments
   refuses s items l h =
       w.is file locale location list run

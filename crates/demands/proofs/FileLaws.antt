@@ -1,8 +1,8 @@
 -- Checking, lookup and choice together. Assumes nothing.
+use Rattle.std.specs.Prelude.{Option, Some, None, Ok, Err}
 use mathlib.Core.Path.{◌≡◌, refl, sym, ap, ◌∙◌}
 use Prim.Native.Nat.{ℕ}
 use mathlib.Core.Bool.{Bool, true, false, not, ◌&&◌, ◌||◌, false≢true}
-use mathlib.Core.Option.{Option, none, some}
 use mathlib.Core.List.{List, [], ◌∷◌, ◌++◌, append_assoc}
 use lib.ListN.{length}
 use lib.Seq.{take-append_seam}
@@ -14,7 +14,7 @@ use Rattle.base.proofs.Tests.{no, none-there as no_row, and_both, or-both}
 use Rattle.base.proofs.Search.{any-as, there-first, first-none, first_passes}
 use Rattle.base.proofs.Search as search
 use Rattle.fault.specs.declared.Fault.TheVariants.{BadArgument, Missing}
-use Rattle.fault.specs.Answer.{Answer, given, refused, ◌>>=◌, need, some_or, accepted}
+use Rattle.fault.specs.Answer.{Answer, ◌>>=◌, need, some_or, accepted}
 use Rattle.characters.specs.Class.{key_byte}
 use Rattle.line.specs.Line.{is_bad}
 use Rattle.line.specs.Form.{group_form, key_form, plain_form, locale_form}
@@ -47,12 +47,12 @@ all_plain file w =
     not-true false e = refl
 
 -- what no element of a list is, one that was found is not
-none_is : (p q : Row → Bool) (rs : List Row) (r : Row) → any p rs ≡ false → first q rs ≡ some r → p r ≡ false
+none_is : (p q : Row → Bool) (rs : List Row) (r : Row) → any p rs ≡ false → first q rs ≡ Some r → p r ≡ false
 unfolding any first
 none_is p q [] r h e = no (cc)
 none_is p q (x ∷ rs) r h e = by (q x) e (or-both (p x) (any p rs) h) (none_is p q rs r)
   where
-    by : (t : Bool) → pick t (some x) (first q rs) ≡ some r → (p x ≡ false) × (any p rs ≡ false) → (any p rs ≡ false → first q rs ≡ some r → p r ≡ false) → p r ≡ false
+    by : (t : Bool) → pick t (Some x) (first q rs) ≡ Some r → (p x ≡ false) × (any p rs ≡ false) → (any p rs ≡ false → first q rs ≡ Some r → p r ≡ false) → p r ≡ false
     by true e h f = let i : x ≡ r = cc in rw i at h.0
     by false e h f = f h.1 e
 
@@ -74,8 +74,8 @@ stands_plain file group x w y = by (find_stripped (read_rows file) (Key group x)
         rw (a, b, stripped-plain k) (not-not (has (read_rows file) (Key g (plain_of k))) n)
 
     by : (o : Option Row) → find_stripped (read_rows file) (Key group x) ≡ o → there o ≡ true → has (read_rows file) (Key group (plain_of x)) ≡ true
-    by none q y = absurd (false≢true y)
-    by (some r) q y =
+    by None q y = absurd (false≢true y)
+    by (Some r) q y =
         named (title r) (same_title-true (Key group x) (stripped_title (title r)) (first_passes (names group x) (read_rows file) r q))
         (none_is (no_plain (read_rows file)) (names group x) (read_rows file) r (all_plain file w) q)
 
@@ -95,21 +95,21 @@ answers true k e = refl
 answers false k e = absurd (false≢true e)
 
 -- a value that is there is told by its ends, and one that is not by 8
-missing : (o : Option Row) → ((some_or o Missing >>= λ r. given (value_ends r)) ≡ refused Missing → there o ≡ false)
-    × (there o ≡ false → (some_or o Missing >>= λ r. given (value_ends r)) ≡ refused Missing)
-missing none = (λ e. refl, λ e. refl)
-missing (some r) = (λ e. no (cc), λ e. no (cc))
+missing : (o : Option Row) → ((some_or o Missing >>= λ r. Ok (value_ends r)) ≡ Err Missing → there o ≡ false)
+    × (there o ≡ false → (some_or o Missing >>= λ r. Ok (value_ends r)) ≡ Err Missing)
+missing None = (λ e. refl, λ e. refl)
+missing (Some r) = (λ e. no (cc), λ e. no (cc))
 
-present : (o : Option Row) → there o ≡ true → accepted (some_or o Missing >>= λ r. given (value_ends r)) ≡ true
-present (some r) e = refl
-present none e = absurd (false≢true e)
+present : (o : Option Row) → there o ≡ true → accepted (some_or o Missing >>= λ r. Ok (value_ends r)) ≡ true
+present (Some r) e = refl
+present None e = absurd (false≢true e)
 
 pub lookup-is : (file group key : List ℕ) → well_formed file ≡ true → (group_form group && key_form key) ≡ true
-    → lookup file group key ≡ (some_or (find_row (read_rows file) (Key group key)) Missing >>= λ r. given (value_ends r))
+    → lookup file group key ≡ (some_or (find_row (read_rows file) (Key group key)) Missing >>= λ r. Ok (value_ends r))
 unfolding lookup
-lookup-is file group key w f = rw (checks file w) (answers (group_form group && key_form key) (some_or (find_row (read_rows file) (Key group key)) Missing >>= λ r. given (value_ends r)) f)
+lookup-is file group key w f = rw (checks file w) (answers (group_form group && key_form key) (some_or (find_row (read_rows file) (Key group key)) Missing >>= λ r. Ok (value_ends r)) f)
 
-pub choose-is : (file group key locale : List ℕ) → check file ≡ given tt → (group_form group && plain_form key && locale_form locale) ≡ true
+pub choose-is : (file group key locale : List ℕ) → check file ≡ Ok tt → (group_form group && plain_form key && locale_form locale) ≡ true
     → choose file group key locale ≡ chosen_ends (read_rows file) group key locale
 unfolding choose
 choose-is file group key locale c f = rw c (answers (group_form group && plain_form key && locale_form locale) (chosen_ends (read_rows file) group key locale) f)
@@ -126,12 +126,12 @@ pub lookup-has : (file group key : List ℕ) → accepted (lookup file group key
 unfolding lookup
 lookup-has file group key e = by (check file) (group_form group && key_form key) (find_row (read_rows file) (Key group key)) e
   where
-    by : (a : Answer (Unit {0})) (t : Bool) (o : Option Row) → accepted (a >>= λ _. (need t BadArgument >>= λ _. (some_or o Missing >>= λ r. given (value_ends r)))) ≡ true
+    by : (a : Answer (Unit {0})) (t : Bool) (o : Option Row) → accepted (a >>= λ _. (need t BadArgument >>= λ _. (some_or o Missing >>= λ r. Ok (value_ends r)))) ≡ true
         → there o ≡ true
-    by (refused f) t o e = absurd (false≢true e)
-    by (given tt) false o e = absurd (false≢true e)
-    by (given tt) true none e = absurd (false≢true e)
-    by (given tt) true (some r) e = refl
+    by (Err f) t o e = absurd (false≢true e)
+    by (Ok tt) false o e = absurd (false≢true e)
+    by (Ok tt) true None e = absurd (false≢true e)
+    by (Ok tt) true (Some r) e = refl
 
 -- where the plain key is absent, so is each candidate
 none-there : (file group key : List ℕ) (ls : List (List ℕ)) → well_formed file ≡ true → plain_form key ≡ true → has (read_rows file) (Key group key) ≡ false
@@ -162,14 +162,14 @@ choice-misses file group key locale w f =
 -- ---- the first that is there
 
 -- no row names one of some keys, so none is found
-no_key : (rs : List Row) (group : List ℕ) (ks : List (List ℕ)) → any (λ k. any (names group k) rs) ks ≡ false → first_key rs group ks ≡ none
+no_key : (rs : List Row) (group : List ℕ) (ks : List (List ℕ)) → any (λ k. any (names group k) rs) ks ≡ false → first_key rs group ks ≡ None
 unfolding find_stripped
 no_key rs group ks e =
     no_row (first_key rs group ks) (there-key rs group ks ∙ any-as (λ k. has_stripped rs (Key group k)) (λ k. any (names group k) rs) (λ k. there-first (names group k) rs) ks ∙ e)
 
 -- the first row that names a key is found
 first_found : (group k : List ℕ) (above below : List Row) (r : Row) → any (names group k) above ≡ false → names group k r ≡ true
-    → find_stripped (above ++ (r ∷ below)) (Key group k) ≡ some r
+    → find_stripped (above ++ (r ∷ below)) (Key group k) ≡ Some r
 unfolding find_stripped first
 first_found group k above below r e i = search.first-append (names group k) above (r ∷ below) ∙ rw (first-none (names group k) above e, i)
 
@@ -177,9 +177,9 @@ pub choice-takes-first : ChoiceTakesFirst
 unfolding ChoiceTakesFirst chosen first_key
 choice-takes-first file group key locale k before after above below r w f i b is e n =
     let rs : List Row = read_rows file in
-    let y : find_stripped rs (Key group k) ≡ some r = rw is (first_found group k above below r e n) in
-    let z : maybe (first_key rs group before) (first_key rs group (k ∷ after)) some ≡ some r = rw (no_key rs group before b, y) in
-    let c : chosen rs group key locale ≡ some r = ap (first_key rs group) i ∙ first-append rs group before (k ∷ after) ∙ z in
+    let y : find_stripped rs (Key group k) ≡ Some r = rw is (first_found group k above below r e n) in
+    let z : maybe (first_key rs group before) (first_key rs group (k ∷ after)) Some ≡ Some r = rw (no_key rs group before b, y) in
+    let c : chosen rs group key locale ≡ Some r = ap (first_key rs group) i ∙ first-append rs group before (k ∷ after) ∙ z in
     choose-is file group key locale (checks file w) f ∙ rw c
 
 -- ---- a file without encodings

@@ -1,17 +1,17 @@
 -- Forgetting the oldest edits: what it keeps, and what a later undo or redo answers. Assumes nothing.
+use Rattle.std.specs.Prelude.{Option, Ok, Err, slice_get}
 use mathlib.Core.Path.{◌≡◌, refl, sym, ap, ◌∙◌}
 use Prim.Native.Nat.{ℕ, suc, ◌+◌, ◌-◌, ◌≤◌}
 use native.Mathlib.Omega.{arith}
 use mathlib.Core.Bool.{Bool, true, false, ◌&&◌}
-use mathlib.Core.Option.{Option}
 use mathlib.Core.List.{List, [], ◌∷◌, reverse_aux}
-use lib.ListN.{length, get_elem?, length-drop}
+use lib.ListN.{length, length-drop}
 use lib.Seq.{length-take-le}
 use lib.Dec.{leb}
 use borrow.Author.Tests.{leb-true, leb-false}
 use Rattle.base.proofs.Tests.{no, by-test}
 use Rattle.fault.specs.declared.Fault.TheVariants.{Damaged, NothingLeft}
-use Rattle.fault.specs.Answer.{Answer, given, refused, ◌>>=◌, need, some_or, then, at_exit}
+use Rattle.fault.specs.Answer.{Answer, ◌>>=◌, need, some_or, then, at_exit}
 use Rattle.fault.proofs.Answers.{need-given}
 use Rattle.wellformed.specs.Check.{check}
 use Rattle.splice.specs.Edit.{Edit, turned}
@@ -36,11 +36,11 @@ unfolding ForgetKeepsFile book_forget
 forget-keeps-file = (λ s k. of-buffers s (forget (journal_of s) k), λ b k. of-book b k (leb k (length b.standing)))
   where
     of-buffers : (s : State) (a : Answer Lent) → let t : State = at_exit s (then (with_journal s) a) in (t.file ≡ s.file) × (t.size ≡ s.size)
-    of-buffers s (given t) = (refl, refl)
-    of-buffers s (refused f) = (refl, refl)
+    of-buffers s (Ok t) = (refl, refl)
+    of-buffers s (Err f) = (refl, refl)
 
     of-book : (b : Book) (k : ℕ) (t : Bool)
-        → let c : Book = at_exit b (need t NothingLeft >>= λ _. given (without_oldest b k)) in
+        → let c : Book = at_exit b (need t NothingLeft >>= λ _. Ok (without_oldest b k)) in
         file_after c.start c.standing ≡ file_after b.start b.standing
     of-book b k true = after-parted (length b.standing - k) b.start b.standing
     of-book b k false = refl
@@ -57,9 +57,9 @@ forget-keeps-persons s t k n e =
     let m : ℕ = length j.stand - k in
     let f = forget-says s t k j o.1 e in
     let l : k ≡ length (oldest k j.stand) = omega (arith, f.enough, length-drop m j.stand) in
-    let g : get_elem? (in_order j) (k + n) ≡ get_elem? (reverse_aux (newer k j.stand) j.wait) n =
-    ap (λ (es : List (Authored Edit)). get_elem? es (k + n)) (order-parted m j.stand j.wait)
-    ∙ ap (λ (i : ℕ). get_elem? (reverse_aux (oldest k j.stand) (reverse_aux (newer k j.stand) j.wait)) (i + n)) l
+    let g : slice_get (in_order j) (k + n) ≡ slice_get (reverse_aux (newer k j.stand) j.wait) n =
+    ap (λ (es : List (Authored Edit)). slice_get es (k + n)) (order-parted m j.stand j.wait)
+    ∙ ap (λ (i : ℕ). slice_get (reverse_aux (oldest k j.stand) (reverse_aux (newer k j.stand) j.wait)) (i + n)) l
     ∙ order-after (oldest k j.stand) (reverse_aux (newer k j.stand) j.wait) n in
     person-opened t (others k j) n (forget-keeps-others s t k j o.1 e)
     ∙ ap (λ (x : Option (Authored Edit)). then (λ d. person_of d.author) (some_or x NothingLeft)) (sym g)
@@ -68,15 +68,15 @@ forget-keeps-persons s t k n e =
 pub forget-none : ForgetNone
 unfolding ForgetNone
 forget-none s j o =
-    forget-is s 0 j o (omega arith) ∙ ap given (ap (λ (n : ℕ). without n s) (sym (oldest-none j.stand)) ∙ without-none s (opened-says s j o).bounds.used-fits)
+    forget-is s 0 j o (omega arith) ∙ ap Ok (ap (λ (n : ℕ). without n s) (sym (oldest-none j.stand)) ∙ without-none s (opened-says s j o).bounds.used-fits)
 
 pub forget-in-turn : ForgetInTurn
 unfolding ForgetInTurn
 forget-in-turn s i k = go (alone.opened s) refl
   where
     go : (a : Answer Journal) → alone.opened s ≡ a → (forget s i >>= λ t. forget t k) ≡ forget s (i + k)
-    go (refused f) o = ap (λ (x : Answer Lent). x >>= λ t. forget t k) (forget-shut s i o) ∙ sym (forget-shut s (i + k) o)
-    go (given j) o =
+    go (Err f) o = ap (λ (x : Answer Lent). x >>= λ t. forget t k) (forget-shut s i o) ∙ sym (forget-shut s (i + k) o)
+    go (Ok j) o =
         by-test (leb i n)
         (λ a. ap (λ (x : Answer Lent). x >>= λ t. forget t k) (forget-is s i j o (leb-true i n a)) ∙ behind (leb-true i n a))
         (λ a.
@@ -102,7 +102,7 @@ forget-in-turn s i k = go (alone.opened s) refl
             let z : lengths (oldest i j.stand) + lengths (oldest k (newer i j.stand)) ≤ s.used =
             omega (arith, y, lengths-parted (n - (i + k)) j.stand, (journal-says (used_of s) s.standing j x.reads).standing, x.bounds.standing-fits) in
             forget-is t k q p (omega arith)
-            ∙ ap given (without-both s (lengths (oldest i j.stand)) (lengths (oldest k (newer i j.stand))) x.bounds.used-fits z ∙ ap (λ (m : ℕ). without m s) y)
+            ∙ ap Ok (without-both s (lengths (oldest i j.stand)) (lengths (oldest k (newer i j.stand))) x.bounds.used-fits z ∙ ap (λ (m : ℕ). without m s) y)
             ∙ sym (forget-is s (i + k) j o b))
             (λ a. let b = leb-false (i + k) n a in forget-lacks t k q p (omega arith) ∙ sym (forget-lacks s (i + k) j o b))
 
@@ -112,15 +112,15 @@ forget-in-turn s i k = go (alone.opened s) refl
 abbrev pub ready : State → Answer (Unit {0})
 ready s = need (leb s.size (length s.file)) Damaged >>= λ _. check (content s)
 
-pub opened_with : (s : State) (j : Journal) → alone.opened (journal_of s) ≡ given j → opened s ≡ (ready s >>= λ _. given j)
+pub opened_with : (s : State) (j : Journal) → alone.opened (journal_of s) ≡ Ok j → opened s ≡ (ready s >>= λ _. Ok j)
 unfolding opened file_checked lengths_fit alone.opened
 opened_with s j h =
     let a = need-given (numbers_fit (journal_of s)) Damaged (λ _. journal_in (journal_of s)) j h in
     rw (a.0, a.1) (go (leb s.size (length s.file)) (check (content s)))
   where
-    go : (x : Bool) (c : Answer (Unit {0})) → ((need (x && true) Damaged >>= λ _. c) >>= λ _. given j) ≡ ((need x Damaged >>= λ _. c) >>= λ _. given j)
-    go true (given u) = refl
-    go true (refused f) = refl
+    go : (x : Bool) (c : Answer (Unit {0})) → ((need (x && true) Damaged >>= λ _. c) >>= λ _. Ok j) ≡ ((need x Damaged >>= λ _. c) >>= λ _. Ok j)
+    go true (Ok u) = refl
+    go true (Err f) = refl
     go false c = refl
 
 -- what is lent, without the oldest that stand
@@ -128,33 +128,33 @@ abbrev pub kept_in : State → ℕ → Journal → State
 kept_in s k j = with_journal s (without (lengths (oldest k j.stand)) (journal_of s))
 
 -- a journal and what is asked of it, where the file is ready
-pub with-given : {A : Type 0} (a : Answer (Unit {0})) (j : Journal) (next : Journal → Answer A) → ((a >>= λ _. given j) >>= next) ≡ (a >>= λ _. next j)
-with-given (given u) j next = refl
-with-given (refused f) j next = refl
+pub with-given : {A : Type 0} (a : Answer (Unit {0})) (j : Journal) (next : Journal → Answer A) → ((a >>= λ _. Ok j) >>= next) ≡ (a >>= λ _. next j)
+with-given (Ok u) j next = refl
+with-given (Err f) j next = refl
 
 -- calls that agree where the file is ready
 same-ready : (k : ℕ) (a : Answer (Unit {0})) (x y : Answer State) → AsBefore k x y → AsBefore k (a >>= λ _. x) (a >>= λ _. y)
-same-ready k (given u) x y e = e
-same-ready k (refused f) x y e = (refl, refl)
+same-ready k (Ok u) x y e = e
+same-ready k (Err f) x y e = (refl, refl)
 
 -- what an accepted call to forget says of what was lent, and of what it leaves
 pub record Left (s t : State) (k : ℕ) (j : Journal) : Type 0 where
   pub is : kept_in s k j ≡ t
   pub enough : k ≤ length j.stand
-  pub after : alone.opened (journal_of (kept_in s k j)) ≡ given (others k j)
+  pub after : alone.opened (journal_of (kept_in s k j)) ≡ Ok (others k j)
   pub standing : s.standing ≡ lengths j.stand
   pub gone : lengths (oldest k j.stand) ≤ s.standing
   pub room : length (kept_in s k j).journal ≡ length s.journal
 
 -- the journal that it leaves
-forgot-journal : (s t : State) (k : ℕ) → state_call s (Forget k) ≡ given t → (u : Lent) × (forget (journal_of s) k ≡ given u) × (with_journal s u ≡ t)
+forgot-journal : (s t : State) (k : ℕ) → state_call s (Forget k) ≡ Ok t → (u : Lent) × (forget (journal_of s) k ≡ Ok u) × (with_journal s u ≡ t)
 forgot-journal s t k e = go (forget (journal_of s) k) refl e
   where
-    go : (a : Answer Lent) → forget (journal_of s) k ≡ a → then (with_journal s) a ≡ given t → (u : Lent) × (forget (journal_of s) k ≡ given u) × (with_journal s u ≡ t)
-    go (given u) h i = (u, h, cc)
-    go (refused f) h i = no (cc)
+    go : (a : Answer Lent) → forget (journal_of s) k ≡ a → then (with_journal s) a ≡ Ok t → (u : Lent) × (forget (journal_of s) k ≡ Ok u) × (with_journal s u ≡ t)
+    go (Ok u) h i = (u, h, cc)
+    go (Err f) h i = no (cc)
 
-pub left : (s t : State) (k : ℕ) (j : Journal) → alone.opened (journal_of s) ≡ given j → state_call s (Forget k) ≡ given t → Left s t k j
+pub left : (s t : State) (k : ℕ) (j : Journal) → alone.opened (journal_of s) ≡ Ok j → state_call s (Forget k) ≡ Ok t → Left s t k j
 left s t k j o e =
     let u = forgot-journal s t k e in
     let f = forget-says (journal_of s) u.0 k j o u.1 in
@@ -170,7 +170,7 @@ left s t k j o e =
     }
 
 -- there was a journal
-pub left-some : (s t : State) (k : ℕ) → state_call s (Forget k) ≡ given t → (j : Journal) × (alone.opened (journal_of s) ≡ given j)
+pub left-some : (s t : State) (k : ℕ) → state_call s (Forget k) ≡ Ok t → (j : Journal) × (alone.opened (journal_of s) ≡ Ok j)
 left-some s t k e = let u = forgot-journal s t k e in forget_opened (journal_of s) u.0 k u.1
 
 -- ---- undo and redo
@@ -182,7 +182,7 @@ undoing s j = some_or (next_of j.stand) NothingLeft >>= λ d. replayed s (turned
 abbrev redoing : State → Journal → Answer State
 redoing s j = some_or (next_of j.wait) NothingLeft >>= λ d. replayed s d.what (s.standing + edit_length d)
 
-module _ (s : State) (j : Journal) (o : alone.opened (journal_of s) ≡ given j) where
+module _ (s : State) (j : Journal) (o : alone.opened (journal_of s) ≡ Ok j) where
   undo-with : undo s ≡ (ready s >>= λ _. undoing s j)
   unfolding undo
   undo-with = ap (λ (a : Answer Journal). a >>= undoing s) (opened_with s j o) ∙ with-given (ready s) j (undoing s)
@@ -192,7 +192,7 @@ module _ (s : State) (j : Journal) (o : alone.opened (journal_of s) ≡ given j)
   redo-with = ap (λ (a : Answer Journal). a >>= redoing s) (opened_with s j o) ∙ with-given (ready s) j (redoing s)
 
 -- an edit from the journal after which others stand
-replayed-forgot : (s : State) (k : ℕ) (j : Journal) (e : Edit) (es ws : List (Authored Edit)) → alone.opened (journal_of s) ≡ given j → in_order j ≡ reverse_aux es ws → k ≤ length es
+replayed-forgot : (s : State) (k : ℕ) (j : Journal) (e : Edit) (es ws : List (Authored Edit)) → alone.opened (journal_of s) ≡ Ok j → in_order j ≡ reverse_aux es ws → k ≤ length es
     → let gone : ℕ = lengths (oldest k es) in
     AsBefore k (replayed (with_journal s (without gone (journal_of s))) e (lengths es - gone)) (replayed s e (lengths es))
 unfolding replayed
@@ -201,12 +201,12 @@ replayed-forgot s k j e es ws o i h = go (replayed_in (length s.file) (content s
     now : List ℕ → State
     now file = with_file s (lengths es) file
 
-    then-forgot : (file : List ℕ) → state_call (now file) (Forget k) ≡ given (with_journal (now file) (without (lengths (oldest k es)) (journal_of (now file))))
+    then-forgot : (file : List ℕ) → state_call (now file) (Forget k) ≡ Ok (with_journal (now file) (without (lengths (oldest k es)) (journal_of (now file))))
     then-forgot file = ap (then (with_journal (now file))) (forget-is (journal_of (now file)) k (record { stand = es; wait = ws }) (others-stand (journal_of s) j es ws o i) h)
 
     go : (a : Answer (List ℕ)) → AsBefore k (then (λ file. with_journal (now file) (without (lengths (oldest k es)) (journal_of (now file)))) a) (then now a)
-    go (given file) = (refl, sym (then-forgot file))
-    go (refused f) = (refl, refl)
+    go (Ok file) = (refl, sym (then-forgot file))
+    go (Err f) = (refl, refl)
 
 -- with one more that stands the oldest are the same, and the latest of the others is that one
 module _ (k : ℕ) (e : Authored Edit) (es : List (Authored Edit)) (h : k ≤ length es) where
@@ -240,11 +240,11 @@ unfolding NoUndoAfterForget
 no-undo-after-forget s t k j o e h =
     let l = left s t k j o e in
     let z : length j.stand - k ≡ 0 = omega arith in
-    let n : undoing (kept_in s k j) (others k j) ≡ refused NothingLeft = rw z in
+    let n : undoing (kept_in s k j) (others k j) ≡ Err NothingLeft = rw z in
     ap undo (sym l.is)
     ∙ undo-with (kept_in s k j) (others k j) l.after
     ∙ ap (λ (a : Answer State). ready s >>= λ _. a) n
-    ∙ sym (ap (λ (a : Answer Journal). a >>= λ _. refused NothingLeft) (opened_with s j o) ∙ with-given (ready s) j (λ _. refused NothingLeft))
+    ∙ sym (ap (λ (a : Answer Journal). a >>= λ _. Err NothingLeft) (opened_with s j o) ∙ with-given (ready s) j (λ _. Err NothingLeft))
 
 pub redo-after-forget : RedoAfterForget
 unfolding RedoAfterForget
@@ -254,7 +254,7 @@ redo-after-forget s t k e =
     let l = left s t k j o.1 e in
     rw (ap redo (sym l.is) ∙ redo-with (kept_in s k j) (others k j) l.after, redo-with s j o.1) (same-ready k (ready s) _ (redoing s j) (by-wait j o.1 l j.wait refl))
   where
-    by-wait : (j : Journal) → alone.opened (journal_of s) ≡ given j → Left s t k j → (ws : List (Authored Edit)) → j.wait ≡ ws → AsBefore k (redoing (kept_in s k j) (others k j)) (redoing s j)
+    by-wait : (j : Journal) → alone.opened (journal_of s) ≡ Ok j → Left s t k j → (ws : List (Authored Edit)) → j.wait ≡ ws → AsBefore k (redoing (kept_in s k j) (others k j)) (redoing s j)
     by-wait j o l [] i = rw i (refl, refl)
     by-wait j o l (d ∷ ws) i =
         let r = replayed-forgot s k j d.what (d ∷ j.stand) ws o (ap (λ (x : List (Authored Edit)). reverse_aux j.stand x) i) (omega (arith, l.enough)) in

@@ -1,9 +1,9 @@
 -- How long the arguments of an accepted expansion are: each fits a record, so that the output reads back. Assumes nothing.
+use Rattle.std.specs.Prelude.{Option, Some, None, Ok}
 use Prim.Native.Nat.{ℕ, zero, suc, ◌+◌, ◌-◌, ◌*◌, ◌≤◌, ◌<◌}
 use native.Mathlib.Omega.{arith}
 use mathlib.Core.Path.{◌≡◌, refl}
 use mathlib.Core.Bool.{Bool, true, false, not, ◌&&◌}
-use mathlib.Core.Option.{Option, none, some}
 use mathlib.Core.List.{List, [], ◌∷◌, ◌++◌, map}
 use lib.ListN.{length, take, drop, get_or, length-append, length-take, length-drop}
 use lib.Dec.{eqb, leb}
@@ -14,7 +14,7 @@ use Rattle.base.specs.Lists.{ascii, all, first}
 use Rattle.base.proofs.Lists.{length_part}
 use Rattle.base.proofs.Tests.{and_both}
 use Rattle.fault.specs.declared.Fault.TheVariants.{Missing}
-use Rattle.fault.specs.Answer.{given, unless}
+use Rattle.fault.specs.Answer.{unless}
 use Rattle.fault.proofs.Answers.{bind-given, need-given, some-given, given_is}
 use Rattle.record.specs.Record.{read_list, list_of}
 use Rattle.record.proofs.Sizes.{records_of}
@@ -102,7 +102,7 @@ words-short (b ∷ s) zero at {m} h = go (not_space b) (words-short s (word_leng
     go true k l = one-is (record { start = at; bytes = take (word_length (b ∷ s)) (b ∷ s) }) (omega (arith, take-le (word_length (b ∷ s)) (b ∷ s))) k
     go false k l = l
 
-pub command-few : (exec : List ℕ) (command : List Argument) → read_command exec ≡ given command → Each (Few (length exec)) command
+pub command-few : (exec : List ℕ) (command : List Argument) → read_command exec ≡ Ok command → Each (Few (length exec)) command
 unfolding read_command
 command-few exec command e =
     let a = bind-given (unless (words_fault true false (words exec))) _ command e in
@@ -160,42 +160,42 @@ fits_all (one-is b p h) = one_more (fits (record { kind = 3; body = b }) (omega 
 -- ---- how long the texts are
 
 -- the raw value of a row that was found is no longer than the file
-raw-short : (file : List ℕ) (p : Row → Bool) (r : Row) → first p (read_rows file) ≡ some r → length (raw_value r) ≤ length file
+raw-short : (file : List ℕ) (p : Row → Bool) (r : Row) → first p (read_rows file) ≡ Some r → length (raw_value r) ≤ length file
 raw-short file p r i =
     let e = value_ends r in
     let h : e.to ≤ length file = (first-inside file p r i).1 in
     rw (← first-stands file p r i) (omega (arith, length_part e.from e.to file h))
 
-text-short : (file : List ℕ) (p : Row → Bool) (r : Row) → first p (read_rows file) ≡ some r → {s : List ℕ} → read_text (raw_value r) ≡ given s → length s ≤ length file
+text-short : (file : List ℕ) (p : Row → Bool) (r : Row) → first p (read_rows file) ≡ Some r → {s : List ℕ} → read_text (raw_value r) ≡ Ok s → length s ≤ length file
 text-short file p r i e = omega (arith, rw e at (read-le (raw_value r)), raw-short file p r i)
 
 -- the same of one that was found by its title
-titled-short : (file : List ℕ) (t : Title) (r : Row) → find_row (read_rows file) t ≡ some r → {s : List ℕ} → read_text (raw_value r) ≡ given s → length s ≤ length file
+titled-short : (file : List ℕ) (t : Title) (r : Row) → find_row (read_rows file) t ≡ Some r → {s : List ℕ} → read_text (raw_value r) ≡ Ok s → length s ≤ length file
 unfolding find_row
 titled-short file t r i e = text-short file (λ s. same_title t (title s)) r i e
 
 module _ (file locale : List ℕ) where
-  chosen-short : (group key : List ℕ) (r : Row) → chosen (read_rows file) group key locale ≡ some r → {s : List ℕ} → read_text (raw_value r) ≡ given s → length s ≤ length file
+  chosen-short : (group key : List ℕ) (r : Row) → chosen (read_rows file) group key locale ≡ Some r → {s : List ℕ} → read_text (raw_value r) ≡ Ok s → length s ≤ length file
   chosen-short group key r i e = let w = chosen-found file group key locale r i in text-short file w.0 r w.1 e
 
-  pub name-in-short : (group : List ℕ) {name : List ℕ} → name_in (read_rows file) group locale ≡ given name → length name ≤ length file
+  pub name-in-short : (group : List ℕ) {name : List ℕ} → name_in (read_rows file) group locale ≡ Ok name → length name ≤ length file
   name-in-short group {name} e = let a = some-given (chosen (read_rows file) group (ascii "Name") locale) Missing (λ r. read_text (raw_value r)) name e in chosen-short group (ascii "Name") a.0 a.1 a.2
 
-  name-short : (asked : Bool) {name : List ℕ} → name_text (read_rows file) locale asked ≡ given name → length name ≤ length file
+  name-short : (asked : Bool) {name : List ℕ} → name_text (read_rows file) locale asked ≡ Ok name → length name ≤ length file
   unfolding name_text
   name-short false {name} e = let i : [] ≡ name = given_is _ _ e in rw (← i) (omega arith)
   name-short true {name} e = name-in-short desktop_entry e
 
-  icon-short : (group : List ℕ) (asked : Bool) {icon : List ℕ} → icon_text (read_rows file) group locale asked ≡ given icon → length icon ≤ length file
+  icon-short : (group : List ℕ) (asked : Bool) {icon : List ℕ} → icon_text (read_rows file) group locale asked ≡ Ok icon → length icon ≤ length file
   unfolding icon_text
   icon-short group false {icon} e = let i : [] ≡ icon = given_is _ _ e in rw (← i) (omega arith)
   icon-short group true {icon} e = go (chosen (read_rows file) group (ascii "Icon") locale) refl e
     where
-      go : (o : Option Row) → chosen (read_rows file) group (ascii "Icon") locale ≡ o → maybe o (given []) (λ r. read_text (raw_value r)) ≡ given icon → length icon ≤ length file
-      go none i e = let j : [] ≡ icon = given_is _ _ e in rw (← j) (omega arith)
-      go (some r) i e = chosen-short group (ascii "Icon") r i e
+      go : (o : Option Row) → chosen (read_rows file) group (ascii "Icon") locale ≡ o → maybe o (Ok []) (λ r. read_text (raw_value r)) ≡ Ok icon → length icon ≤ length file
+      go None i e = let j : [] ≡ icon = given_is _ _ e in rw (← j) (omega arith)
+      go (Some r) i e = chosen-short group (ascii "Icon") r i e
 
-pub file-short : (file : List ℕ) → check_as desktop_entry file ≡ given tt → length file ≤ 32768
+pub file-short : (file : List ℕ) → check_as desktop_entry file ≡ Ok tt → length file ≤ 32768
 unfolding check_as
 file-short file e = leb-true (length file) file_most (need-given _ _ (λ _. checked_rows desktop_entry (read_rows file)) tt e).0
 
@@ -210,7 +210,7 @@ items-each [] h = none_is
 items-each (b ∷ bs) h = let l = length-cons 2 b bs in one-is b (omega arith) (items-each bs (omega arith))
 
 -- an item's record is no longer than the list
-pub items-short : (list : List ℕ) (items : List (List ℕ)) → read_list 2 list_most list ≡ some items → Each (λ b. 6 + length b ≤ 65536) items
+pub items-short : (list : List ℕ) (items : List (List ℕ)) → read_list 2 list_most list ≡ Some items → Each (λ b. 6 + length b ≤ 65536) items
 items-short list items e =
     let i : items_in list ≡ items = rw e in
     let l = items-length 2 list (rw e) in
@@ -247,9 +247,9 @@ arguments-short {by} {k} {file} {locale} {location} {list} s items w run =
 
 -- the output reads back as the arguments
 pub output-back : {by : Expander} {k : Known by} {file locale location list : List ℕ} (s : Sound k file locale location) (items : List (List ℕ)) → Listed list items → (run : ℕ) {out : List ℕ} → out ≡ list_of 3 (arguments_of s items run)
-    → read_list 3 (length out) out ≡ some (arguments_of s items run)
+    → read_list 3 (length out) out ≡ Some (arguments_of s items run)
 output-back s items w run {out} e = rw e (list_back 3 (length (list_of 3 (arguments_of s items run))) (arguments_of s items run) (arguments-short s items w run) (omega arith))
 
 -- a list of one item reads
-pub one-reads : (item : List ℕ) → 6 + length item ≤ 65536 → read_list 2 list_most (list_of 2 (item ∷ [])) ≡ some (item ∷ [])
+pub one-reads : (item : List ℕ) → 6 + length item ≤ 65536 → read_list 2 list_most (list_of 2 (item ∷ [])) ≡ Some (item ∷ [])
 one-reads item h = list_back 2 list_most (item ∷ []) (one_more (fits (record { kind = 2; body = item }) (omega arith) (omega arith)) no_record) (omega (arith, length-one 2 item))

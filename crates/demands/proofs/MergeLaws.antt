@@ -1,15 +1,15 @@
 -- Two sets of different entries can be made in either order, and a choice that does not ask for the edited entry hands back what it did.
 -- Assumes nothing.
+use Rattle.std.specs.Prelude.{Option, Some, None, option_map, Ok, Err}
 use mathlib.Core.Path.{◌≡◌, refl, sym, ap, ap₂, subst, ◌∙◌}
 use Prim.Native.Nat.{ℕ}
 use mathlib.Core.Bool.{Bool, true, false, ◌&&◌, false≢true}
-use mathlib.Core.Option.{Option, none, some, map}
 use mathlib.Core.List.{List, [], ◌∷◌}
 use Rattle.base.specs.Choice.{maybe}
 use Rattle.base.specs.Lists.{part, any, all, joined}
 use Rattle.base.proofs.Tests.{by-test, and_both, or-both, all_weaker}
 use Rattle.fault.specs.declared.Fault.TheVariants.{BadArgument, Missing}
-use Rattle.fault.specs.Answer.{Answer, given, refused, some_or, then, accepted}
+use Rattle.fault.specs.Answer.{Answer, some_or, then, accepted}
 use Rattle.fault.proofs.Answers.{bind-given, given_is}
 use Rattle.text.specs.Escape.{read_text, raw_text, fit_text}
 use Rattle.line.specs.Form.{group_form, plain_form, locale_form}
@@ -59,11 +59,11 @@ abbrev are_sets : List (Authored Request) → Bool
 are_sets qs = all (λ q. is_set q.what) qs
 
 accepted-then : {A B : Type 0} (f : A → B) (a : Answer A) → accepted (then f a) ≡ accepted a
-accepted-then f (given a) = refl
-accepted-then f (refused e) = refl
+accepted-then f (Ok a) = refl
+accepted-then f (Err e) = refl
 
 -- an entry that was there is there after a set
-present-still : (s t : State) (author : Author) (group key text : List ℕ) → request s (by author (Set group key text)) ≡ given t
+present-still : (s t : State) (author : Author) (group key text : List ℕ) → request s (by author (Set group key text)) ≡ Ok t
     → (q : Request) → sets_present (content s) q ≡ true → sets_present (content t) q ≡ true
 unfolding SetIsReadBack OthersReadAsBefore
 present-still s t author group key text h (Remove g k) e = e
@@ -72,7 +72,7 @@ present-still s t author group key text h (Set g k _) e =
     (λ i.
     let j : Key g k ≡ Key group key = same_title-true (Key g k) (Key group key) i in
     let own = bind-given (handed (content t) group key) read_text text (set-is-read-back s t author group key text h) in
-    let b : handed (content t) g k ≡ given own.0 = ap₂ (handed (content t)) (cc) (cc) ∙ own.1 in
+    let b : handed (content t) g k ≡ Ok own.0 = ap₂ (handed (content t)) (cc) (cc) ∙ own.1 in
     sym (accepted-then _ (lookup (content t) g k)) ∙ ap accepted b)
     (λ n.
     sym (accepted-then _ (lookup (content t) g k))
@@ -86,7 +86,7 @@ record InTurn (s t : State) (qs : List (Authored Request)) : Type 0 where
   left : rows (content t) ≡ sets_rows qs (rows (content s))
   still : (p : Request) → sets_present (content s) p ≡ true → sets_present (content t) p ≡ true
 
-one_set : (s t : State) (author : Author) (q : Request) → sets_present (content s) q ≡ true → request s (by author q) ≡ given t → InTurn s t (by author q ∷ [])
+one_set : (s t : State) (author : Author) (q : Request) → sets_present (content s) q ≡ true → request s (by author q) ≡ Ok t → InTurn s t (by author q ∷ [])
 unfolding all
 one_set s t author (Remove group key) e h = absurd (false≢true e)
 one_set s t author (Set group key text) e h =
@@ -102,7 +102,7 @@ one_set s t author (Set group key text) e h =
 still-present : (f g : List ℕ) → ((p : Request) → sets_present f p ≡ true → sets_present g p ≡ true) → (qs : List (Authored Request)) → all_set_present f qs ≡ true → all_set_present g qs ≡ true
 still-present f g h qs e = all_weaker (λ q. sets_present f q.what) (λ q. sets_present g q.what) (λ q. h q.what) qs e
 
-in-turn : (s t : State) (qs : List (Authored Request)) → all_set_present (content s) qs ≡ true → request_all s qs ≡ given t → InTurn s t qs
+in-turn : (s t : State) (qs : List (Authored Request)) → all_set_present (content s) qs ≡ true → request_all s qs ≡ Ok t → InTurn s t qs
 unfolding all
 in-turn s t [] e h = subst (λ (u : State). InTurn s u []) (given_is s t h) (record { are-sets = refl; left = refl; still = λ p x. x })
 in-turn s t (q ∷ qs) e h =
@@ -153,7 +153,7 @@ record Both (s t : State) (ps qs : List (Authored Request)) : Type 0 where
   left : rows (content t) ≡ sets_rows qs (sets_rows ps (rows (content s)))
 
 both : (s m t : State) (ps qs : List (Authored Request)) → all_set_present (content s) ps ≡ true → all_set_present (content s) qs ≡ true
-    → request_all s ps ≡ given m → request_all m qs ≡ given t → Both s t ps qs
+    → request_all s ps ≡ Ok m → request_all m qs ≡ Ok t → Both s t ps qs
 both s m t ps qs e f a b =
     let x = in-turn s m ps e a in
     let y = in-turn m t qs (still-present (content s) (content m) x.still qs f) b in
@@ -178,7 +178,7 @@ sets-commute s s₁ s₂ r r₂ r₁ author₁ author₂ group₁ key₁ text₁
 
 -- the value of the first present of some keys: an entry that none of them names has no part in it
 keys-alike : (t : Title) (f h group : List ℕ) (ks : List (List ℕ)) → AlikeBut t (lines_of f) (lines_of h) → any (λ k. same_title (Key group k) (stripped_title t)) ks ≡ false
-    → map raw_value (first_key (read_rows f) group ks) ≡ map raw_value (first_key (read_rows h) group ks)
+    → option_map raw_value (first_key (read_rows f) group ks) ≡ option_map raw_value (first_key (read_rows h) group ks)
 unfolding first_key find_stripped any
 keys-alike t f h group [] a e = refl
 keys-alike t f h group (k ∷ ks) a e =
@@ -186,28 +186,28 @@ keys-alike t f h group (k ∷ ks) a e =
     let b = or-both (p t) (any (λ k. same_title (Key group k) (stripped_title t)) ks) e in
     let x : Option Row = find_stripped (read_rows f) (Key group k) in
     let y : Option Row = find_stripped (read_rows h) (Key group k) in
-    let i : map raw_value x ≡ map raw_value y = first-file p f ∙ a p (nameless (Key group k)) b.0 ∙ sym (first-file p h) in
+    let i : option_map raw_value x ≡ option_map raw_value y = first-file p f ∙ a p (nameless (Key group k)) b.0 ∙ sym (first-file p h) in
     first-value x (first_key (read_rows f) group ks) ∙ rw (i, keys-alike t f h group ks a b.1) (sym (first-value y (first_key (read_rows h) group ks)))
   where
-    first-value : (o later : Option Row) → map raw_value (maybe o later some) ≡ maybe (map raw_value o) (map raw_value later) some
-    first-value none later = refl
-    first-value (some r) later = refl
+    first-value : (o later : Option Row) → option_map raw_value (maybe o later Some) ≡ maybe (option_map raw_value o) (option_map raw_value later) Some
+    first-value None later = refl
+    first-value (Some r) later = refl
 
 -- choice in a well-formed file hands back the raw value of the chosen row
 choose-reads : (f group key locale : List ℕ) → well_formed f ≡ true → (group_form group && plain_form key && locale_form locale) ≡ true
-    → chosen_part f group key locale ≡ some_or (map raw_value (chosen (read_rows f) group key locale)) Missing
+    → chosen_part f group key locale ≡ some_or (option_map raw_value (chosen (read_rows f) group key locale)) Missing
 choose-reads f group key locale h c =
     ap (then (λ e. part e.from e.to f)) (choose-is f group key locale (checks f h) c)
     ∙ chosen-stands f group key locale
     ∙ by_row (chosen (read_rows f) group key locale)
   where
-    by_row : (o : Option Row) → then raw_value (some_or o Missing) ≡ some_or (map raw_value o) Missing
-    by_row none = refl
-    by_row (some r) = refl
+    by_row : (o : Option Row) → then raw_value (some_or o Missing) ≡ some_or (option_map raw_value o) Missing
+    by_row None = refl
+    by_row (Some r) = refl
 
 -- with arguments of another form it is refused
 choose-formless : (f group key locale : List ℕ) → well_formed f ≡ true → (group_form group && plain_form key && locale_form locale) ≡ false
-    → chosen_part f group key locale ≡ refused BadArgument
+    → chosen_part f group key locale ≡ Err BadArgument
 unfolding choose
 choose-formless f group key locale h c = rw (checks f h, c)
 

@@ -1,9 +1,9 @@
 -- Every call on a file asks the check first, and nothing that it asks later tells a bad line. Assumes nothing.
+use Rattle.std.specs.Prelude.{Option, Some, None, Ok, Err}
 use mathlib.Core.Path.{◌≡◌, refl, sym, ap, ◌∙◌}
 use Prim.Native.Nat.{ℕ, zero, suc, ◌+◌, ◌-◌}
 use Prim.Native.Char.{code}
 use mathlib.Core.Bool.{Bool, true, false, ◌&&◌, ◌||◌, false≢true}
-use mathlib.Core.Option.{Option, none, some}
 use mathlib.Core.List.{List, [], ◌∷◌}
 use lib.ListN.{length, take}
 use lib.Dec.{eqb, ltb}
@@ -13,7 +13,7 @@ use Rattle.base.specs.Lists.{ascii, same, any, all, first}
 use Rattle.base.proofs.Tests.{no}
 use Rattle.fault.specs.declared.Fault.{Fault}
 use Rattle.fault.specs.declared.Fault.TheVariants.{BadLine, BadArgument, Missing, UnfitText, NoRoom, NothingLeft, JournalFull, Damaged, BadExec, BadCode, Incomplete}
-use Rattle.fault.specs.Answer.{Answer, given, refused, ◌>>=◌, unless, then}
+use Rattle.fault.specs.Answer.{Answer, ◌>>=◌, unless, then}
 use Rattle.fault.proofs.Answers.{unless-refused}
 use Rattle.fault.proofs.Refusals.{IfRefused, if-then, if-bind, if-need, if-or, if_some, if_none, of-refusal, Not2, came-later, came-first}
 use Rattle.text.specs.Escape.{read_text}
@@ -58,7 +58,7 @@ use Rattle.demands.proofs.BadLines.{bad-line-told}
 
 -- ---- the check's refusal ends every call
 
-edit-refuses : (s : State) (f : Fault) (c : Call) → lends_file c ≡ true → lengths_fit s ≡ true → check (content s) ≡ refused f → state_call s c ≡ refused f
+edit-refuses : (s : State) (f : Fault) (c : Call) → lends_file c ≡ true → lengths_fit s ≡ true → check (content s) ≡ Err f → state_call s c ≡ Err f
 unfolding request undo redo opened file_checked
 edit-refuses s f (Do q) c l e = rw (l, e)
 edit-refuses s f Undo c l e = rw (l, e)
@@ -105,13 +105,13 @@ replayed-not2 s e standing =
 
 -- ---- the calls that edit
 
-opened-tells : (s : State) (line byte : ℕ) → opened s ≡ refused (BadLine line byte) → check (content s) ≡ refused (BadLine line byte)
+opened-tells : (s : State) (line byte : ℕ) → opened s ≡ Err (BadLine line byte) → check (content s) ≡ Err (BadLine line byte)
 unfolding opened file_checked
 opened-tells s line byte e =
     came-later (lengths_fit s) Damaged _ line byte refl
     (came-first (file_checked s) _ line byte (λ _. if-or Not2 (read_journal (take s.used s.journal) s.standing) Damaged refl) e)
 
-edit-tells : (s : State) (c : Call) (line byte : ℕ) → state_call s c ≡ refused (BadLine line byte) → check (content s) ≡ refused (BadLine line byte)
+edit-tells : (s : State) (c : Call) (line byte : ℕ) → state_call s c ≡ Err (BadLine line byte) → check (content s) ≡ Err (BadLine line byte)
 unfolding request applied undo redo
 edit-tells s (Do q) line byte e =
     opened-tells s line byte
@@ -126,17 +126,17 @@ edit-tells s (Forget k) line byte e =
 -- ---- a batch
 
 -- 2 comes from what it asks first: an accepted request leaves a well-formed file
-batch_tells : (s : State) (author : Author) (list : List ℕ) (line byte : ℕ) → (batch s author list).stopped ≡ some (BadLine line byte)
-    → check (content s) ≡ refused (BadLine line byte)
+batch_tells : (s : State) (author : Author) (list : List ℕ) (line byte : ℕ) → (batch s author list).stopped ≡ Some (BadLine line byte)
+    → check (content s) ≡ Err (BadLine line byte)
 unfolding batch listed EditKeepsWellFormed
 batch_tells s author list line byte = go (listed s list) refl
   where
-    go : (a : Answer (List Request)) → listed s list ≡ a → (begun s author a).stopped ≡ some (BadLine line byte) → check (content s) ≡ refused (BadLine line byte)
-    go (refused f) h e = opened-tells s line byte (came-first (opened s) _ line byte (λ _. if_some Not2 (read_requests list) Damaged _ refl (λ _. tt)) (h ∙ ap refused (cc)))
-    go (given qs) h e =
-        in-turn author (λ qs s b. b.stopped ≡ some (BadLine line byte) → check (content s) ≡ refused (BadLine line byte))
+    go : (a : Answer (List Request)) → listed s list ≡ a → (begun s author a).stopped ≡ Some (BadLine line byte) → check (content s) ≡ Err (BadLine line byte)
+    go (Err f) h e = opened-tells s line byte (came-first (opened s) _ line byte (λ _. if_some Not2 (read_requests list) Damaged _ refl (λ _. tt)) (h ∙ ap Err (cc)))
+    go (Ok qs) h e =
+        in-turn author (λ qs s b. b.stopped ≡ Some (BadLine line byte) → check (content s) ≡ Err (BadLine line byte))
         (λ s e. no (cc))
-        (λ q qs s f i e. edit-tells s (Do (by author q)) line byte (i ∙ ap refused (cc)))
+        (λ q qs s f i e. edit-tells s (Do (by author q)) line byte (i ∙ ap Err (cc)))
         (λ q qs s t b i w e.
         let bad = w e in
         let good = checks (content t) (edit-keeps-well-formed s t (by author q) i) in
@@ -149,15 +149,15 @@ piece-not2 : (quoted program taken : Bool) (b c at : ℕ) → IfRefused Not2 (un
 unfolding piece_fault
 piece-not2 quoted program taken b c at = go (eqb b (code "%")) (code_in quoted program taken c) (pick (takes_next quoted b) (needs_backslash c) (stands_in quoted program b))
   where
-    go : (x y z : Bool) → IfRefused Not2 (unless (pick x (pick y none (some (BadCode at))) (pick z none (some (BadExec at)))))
+    go : (x y z : Bool) → IfRefused Not2 (unless (pick x (pick y None (Some (BadCode at))) (pick z None (Some (BadExec at)))))
     go true true z = tt
     go true false z = refl
     go false y true = tt
     go false y false = refl
 
-later-not2 : (o later : Option Fault) → IfRefused Not2 (unless o) → IfRefused Not2 (unless later) → IfRefused Not2 (unless (maybe o later some))
-later-not2 none later h g = g
-later-not2 (some f) later h g = h
+later-not2 : (o later : Option Fault) → IfRefused Not2 (unless o) → IfRefused Not2 (unless later) → IfRefused Not2 (unless (maybe o later Some))
+later-not2 None later h g = g
+later-not2 (Some f) later h g = h
 
 pieces-not2 : (quoted program taken : Bool) (s : List ℕ) (n at : ℕ) → IfRefused Not2 (unless (pieces_fault quoted program taken s n at))
 unfolding pieces_fault
@@ -175,20 +175,20 @@ quoted-not2 program taken w = go (unfit program (length w.bytes) n) (eqb (length
     n : ℕ
     n = inside_length w.bytes
 
-    behind : (y : Bool) → IfRefused Not2 (unless (pick y none (some (BadExec (w.start + n + 2)))))
+    behind : (y : Bool) → IfRefused Not2 (unless (pick y None (Some (BadExec (w.start + n + 2)))))
     behind true = tt
     behind false = refl
 
     go : (x y : Bool)
-        → IfRefused Not2 (unless (pick x (some (BadExec w.start)) (maybe (pieces_fault true program taken (inside w.bytes) 0 (w.start + 1)) (pick y none (some (BadExec (w.start + n + 2)))) some)))
+        → IfRefused Not2 (unless (pick x (Some (BadExec w.start)) (maybe (pieces_fault true program taken (inside w.bytes) 0 (w.start + 1)) (pick y None (Some (BadExec (w.start + n + 2)))) Some)))
     go true y = refl
-    go false y = later-not2 (pieces_fault true program taken (inside w.bytes) 0 (w.start + 1)) (pick y none (some (BadExec (w.start + n + 2)))) (pieces-not2 true program taken (inside w.bytes) 0 (w.start + 1)) (behind y)
+    go false y = later-not2 (pieces_fault true program taken (inside w.bytes) 0 (w.start + 1)) (pick y None (Some (BadExec (w.start + n + 2)))) (pieces-not2 true program taken (inside w.bytes) 0 (w.start + 1)) (behind y)
 
 word-not2 : (program taken : Bool) (w : Word) → IfRefused Not2 (unless (word_fault program taken w))
 unfolding word_fault
 word-not2 program taken w = go (form_of w.bytes)
   where
-    whole : (t : Bool) → IfRefused Not2 (unless (pick t (some (BadCode w.start)) none))
+    whole : (t : Bool) → IfRefused Not2 (unless (pick t (Some (BadCode w.start)) None))
     whole true = refl
     whole false = tt
 
@@ -219,9 +219,9 @@ unfolding icon_text
 icon-not2 rs group locale false = tt
 icon-not2 rs group locale true = go (chosen rs group (ascii "Icon") locale)
   where
-    go : (o : Option Row) → IfRefused Not2 (maybe o (given []) (λ r. read_text (raw_value r)))
-    go none = tt
-    go (some r) = read-not2 (raw_value r)
+    go : (o : Option Row) → IfRefused Not2 (maybe o (Ok []) (λ r. read_text (raw_value r)))
+    go None = tt
+    go (Some r) = read-not2 (raw_value r)
 
 group-not2 : (rs : List Row) (group locale location : List ℕ) (items : List (List ℕ)) (run : ℕ) → IfRefused Not2 (group_arguments rs group locale location items run)
 unfolding group_arguments read_command run_arguments
@@ -233,7 +233,7 @@ group-not2 rs group locale location items run =
     (λ _. if-bind Not2 (name_text rs locale (any (has_piece is_name) args)) _ (name-not2 rs locale (any (has_piece is_name) args))
     (λ name. if-bind Not2 (icon_text rs group locale (any is_icon args)) _ (icon-not2 rs group locale (any is_icon args)) (λ icon. tt))))))
 
-asked-tells : (file locale location list : List ℕ) (line byte : ℕ) → asked_items file locale location list ≡ refused (BadLine line byte) → check file ≡ refused (BadLine line byte)
+asked-tells : (file locale location list : List ℕ) (line byte : ℕ) → asked_items file locale location list ≡ Err (BadLine line byte) → check file ≡ Err (BadLine line byte)
 unfolding asked_items
 asked-tells file locale location list line byte =
     came-first (check file) _ line byte
@@ -242,10 +242,10 @@ asked-tells file locale location list line byte =
 
 -- the arguments of a group's Exec as records
 records-not2 : (rs : List Row) (group locale location : List ℕ) (items : List (List ℕ)) (run : ℕ)
-    → IfRefused Not2 (group_arguments rs group locale location items run >>= λ args. given (list_of 3 args))
+    → IfRefused Not2 (group_arguments rs group locale location items run >>= λ args. Ok (list_of 3 args))
 records-not2 rs group locale location items run = if-bind Not2 (group_arguments rs group locale location items run) _ (group-not2 rs group locale location items run) (λ args. tt)
 
-expand_tells : (file locale location list : List ℕ) (run line byte : ℕ) → expand file locale location list run ≡ refused (BadLine line byte) → check file ≡ refused (BadLine line byte)
+expand_tells : (file locale location list : List ℕ) (run line byte : ℕ) → expand file locale location list run ≡ Err (BadLine line byte) → check file ≡ Err (BadLine line byte)
 unfolding expand
 expand_tells file locale location list run line byte e =
     asked-tells file locale location list line byte
@@ -262,7 +262,7 @@ labelled-not2 rs locale (id ∷ ids) =
     if-bind Not2 (name_in rs (spec.action_group id) locale) _ (name-in-not2 rs (spec.action_group id) locale)
     (λ label. if-bind Not2 (spec.labelled rs locale ids) _ (labelled-not2 rs locale ids) (λ later. tt))
 
-actions_tells : (file locale : List ℕ) (line byte : ℕ) → spec.actions file locale ≡ refused (BadLine line byte) → check file ≡ refused (BadLine line byte)
+actions_tells : (file locale : List ℕ) (line byte : ℕ) → spec.actions file locale ≡ Err (BadLine line byte) → check file ≡ Err (BadLine line byte)
 unfolding spec.actions
 actions_tells file locale line byte =
     came-first (check file) _ line byte
@@ -270,8 +270,8 @@ actions_tells file locale line byte =
     (λ _. if-bind Not2 (spec.listed (read_rows file)) _ (listed-not2 (read_rows file))
     (λ ids. if-bind Not2 (spec.labelled (read_rows file) locale ids) _ (labelled-not2 (read_rows file) locale ids) (λ bodies. tt))))
 
-expand_action_tells : (file action locale location list : List ℕ) (run line byte : ℕ) → spec.expand_action file action locale location list run ≡ refused (BadLine line byte)
-    → check file ≡ refused (BadLine line byte)
+expand_action_tells : (file action locale location list : List ℕ) (run line byte : ℕ) → spec.expand_action file action locale location list run ≡ Err (BadLine line byte)
+    → check file ≡ Err (BadLine line byte)
 unfolding spec.expand_action
 expand_action_tells file action locale location list run line byte e =
     asked-tells file locale location list line byte
@@ -295,5 +295,5 @@ bad-line-told-by-calls file =
       batch_tells = λ s author list i line byte e. so line byte (ap check (sym i) ∙ batch_tells s author list line byte (unless-refused (batch s author list).stopped (BadLine line byte) e));
     }
   where
-    so : (line byte : ℕ) → check file ≡ refused (BadLine line byte) → BadAt file line byte
+    so : (line byte : ℕ) → check file ≡ Err (BadLine line byte) → BadAt file line byte
     so line byte e = bad-line-told file line byte e

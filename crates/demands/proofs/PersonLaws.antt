@@ -1,18 +1,18 @@
 -- The persons of a journal's records, after any calls. Assumes nothing.
+use Rattle.std.specs.Prelude.{Option, Some, None, Ok, Err, slice_get}
 use mathlib.Core.Path.{◌≡◌, refl, sym, ap, ◌∙◌}
 use Prim.Native.Nat.{ℕ, zero, suc, ◌+◌, ◌-◌, ◌≤◌, ◌<◌}
 use native.Mathlib.Omega.{arith}
 use mathlib.Core.Bool.{Bool, true, false}
-use mathlib.Core.Option.{Option, none, some}
 use mathlib.Core.List.{List, [], ◌∷◌, ◌++◌, map, reverse_aux}
-use lib.ListN.{length, take, get_elem?}
+use lib.ListN.{length, take}
 use lib.Seq.{length-take-le}
 use lib.Dec.{eqb, leb}
 use borrow.Author.Tests.{leb-true, leb-false, le-leb}
 use Rattle.base.specs.Lists.{all}
 use Rattle.base.proofs.Tests.{no, by-test, and_both}
 use Rattle.fault.specs.declared.Fault.TheVariants.{NoRoom, NothingLeft, JournalFull}
-use Rattle.fault.specs.Answer.{Answer, given, refused, ◌>>=◌, need, some_or, then, at_exit}
+use Rattle.fault.specs.Answer.{Answer, ◌>>=◌, need, some_or, then, at_exit}
 use Rattle.fault.proofs.Answers.{bind-given, some-given, given_is}
 use Rattle.record.specs.Record.{bodies_of, read_list}
 use Rattle.splice.specs.Edit.{Edit, spliced, turned}
@@ -80,7 +80,7 @@ module _ {A B : Type 0} where
       rw (← h.0, p.0) (kinds-alike kind xs ys h.1 p.1)
 
 -- an opened journal tells its edits' persons
-pub person-opened : (s : Lent) (j : Journal) (n : ℕ) → alone.opened s ≡ given j → person s n ≡ person_in (in_order j) n
+pub person-opened : (s : Lent) (j : Journal) (n : ℕ) → alone.opened s ≡ Ok j → person s n ≡ person_in (in_order j) n
 unfolding person
 person-opened s j n h = rw h
 
@@ -124,15 +124,15 @@ kinds-call kind b (Do q) e k = by-edit (edit_of (book_file b) q.what)
     done : Book
     done = with_lists b (q ∷ b.standing) []
 
-    by-room : (x y : Bool) → Kinds kind (at_exit b (need x NoRoom >>= λ _. need y JournalFull >>= λ _. given done))
+    by-room : (x y : Bool) → Kinds kind (at_exit b (need x NoRoom >>= λ _. need y JournalFull >>= λ _. Ok done))
     by-room true true = record { stand = rw e k.stand; wait = refl }
     by-room true false = k
     by-room false y = k
 
     by-edit : (a : Answer Edit)
-        → Kinds kind (at_exit b (a >>= λ d. need (file_fits b.file_room (spliced d (book_file b))) NoRoom >>= λ _. need (record_fits b.journal_room (book_standing b) (by q.author d)) JournalFull >>= λ _. given done))
-    by-edit (refused f) = k
-    by-edit (given d) = by-room (file_fits b.file_room (spliced d (book_file b))) (record_fits b.journal_room (book_standing b) (by q.author d))
+        → Kinds kind (at_exit b (a >>= λ d. need (file_fits b.file_room (spliced d (book_file b))) NoRoom >>= λ _. need (record_fits b.journal_room (book_standing b) (by q.author d)) JournalFull >>= λ _. Ok done))
+    by-edit (Err f) = k
+    by-edit (Ok d) = by-room (file_fits b.file_room (spliced d (book_file b))) (record_fits b.journal_room (book_standing b) (by q.author d))
 kinds-call kind b Undo e k = go b.standing k.stand
   where
     go : (qs : List (Authored Request)) → all (of_kind kind) qs ≡ true → Kinds kind (at_exit b (book_undo b qs))
@@ -145,7 +145,7 @@ kinds-call kind b Redo e k = go b.waiting k.wait
     go (q ∷ qs) h = let p = and_both (of_kind kind q) (all (of_kind kind) qs) h in record { stand = rw p.0 k.stand; wait = p.1 }
 kinds-call kind b (Forget n) e k = go (leb n (length b.standing))
   where
-    go : (t : Bool) → Kinds kind (at_exit b (need t NothingLeft >>= λ _. given (without_oldest b n)))
+    go : (t : Bool) → Kinds kind (at_exit b (need t NothingLeft >>= λ _. Ok (without_oldest b n)))
     go true = record { stand = all_take (of_kind kind) (length b.standing - n) b.standing k.stand; wait = k.wait }
     go false = k
 
@@ -180,11 +180,11 @@ records-of-one-kind start rest journal kind calls h p w =
 -- ---- a set or remove
 
 -- in order: what follows those that stand, and one of those
-pub order-after : (es ws : List (Authored Edit)) (n : ℕ) → get_elem? (reverse_aux es ws) (length es + n) ≡ get_elem? ws n
+pub order-after : (es ws : List (Authored Edit)) (n : ℕ) → slice_get (reverse_aux es ws) (length es + n) ≡ slice_get ws n
 order-after [] ws n = let z : 0 + n ≡ n = omega arith in rw z
 order-after (e ∷ es) ws n = let z : suc (length es) + n ≡ length es + suc n = omega arith in rw z (order-after es (e ∷ ws) (suc n))
 
-order-before : (es ws vs : List (Authored Edit)) (n : ℕ) → n < length es → get_elem? (reverse_aux es ws) n ≡ get_elem? (reverse_aux es vs) n
+order-before : (es ws vs : List (Authored Edit)) (n : ℕ) → n < length es → slice_get (reverse_aux es ws) n ≡ slice_get (reverse_aux es vs) n
 order-before [] ws vs n h = absurd (omega arith)
 order-before (e ∷ es) ws vs n h =
     by-test (leb (length es) n)
@@ -202,8 +202,8 @@ person-told s t q j p h e =
     let told : Option (Authored Edit) → Answer ℕ = λ o. then (λ d. person_of d.author) (some_or o NothingLeft) in
     let z : length j.stand ≡ length j.stand + 0 = omega arith in
     let y : suc (length j.stand) ≡ length j.stand + 1 = omega arith in
-    let last : get_elem? (in_order k) (suc (length j.stand)) ≡ none = rw y (order-after j.stand (m ∷ []) 1) in
-    let own : get_elem? (in_order k) (length j.stand) ≡ some m = rw z (order-after j.stand (m ∷ []) 0) in
+    let last : slice_get (in_order k) (suc (length j.stand)) ≡ None = rw y (order-after j.stand (m ∷ []) 1) in
+    let own : slice_get (in_order k) (length j.stand) ≡ Some m = rw z (order-after j.stand (m ∷ []) 0) in
     let after = (opened_both t k r.1).journal-opened in
     let before = (opened_both s j h).journal-opened in (
       person-opened (journal_of t) k (length j.stand) after ∙ ap told own,
@@ -214,8 +214,8 @@ person-told s t q j p h e =
 -- ---- undo and redo
 
 -- the same journal, of which others stand
-pub others-stand : (s : Lent) (j : Journal) (es ws : List (Authored Edit)) → alone.opened s ≡ given j → in_order j ≡ reverse_aux es ws
-    → alone.opened (lent s.journal s.used (lengths es)) ≡ given (record { stand = es; wait = ws })
+pub others-stand : (s : Lent) (j : Journal) (es ws : List (Authored Edit)) → alone.opened s ≡ Ok j → in_order j ≡ reverse_aux es ws
+    → alone.opened (lent s.journal s.used (lengths es)) ≡ Ok (record { stand = es; wait = ws })
 others-stand s j es ws h i =
     let o = opened-says s j h in
     let b = o.bounds in
@@ -226,7 +226,7 @@ others-stand s j es ws h i =
       reads = p.0;
     })
 
-persons-moved : (s : Lent) (j : Journal) (es ws : List (Authored Edit)) (n : ℕ) → alone.opened s ≡ given j → in_order j ≡ reverse_aux es ws
+persons-moved : (s : Lent) (j : Journal) (es ws : List (Authored Edit)) (n : ℕ) → alone.opened s ≡ Ok j → in_order j ≡ reverse_aux es ws
     → person (lent s.journal s.used (lengths es)) n ≡ person s n
 persons-moved s j es ws n h i =
     person-opened (lent s.journal s.used (lengths es)) (record { stand = es; wait = ws }) n (others-stand s j es ws h i)
@@ -234,16 +234,16 @@ persons-moved s j es ws n h i =
     ∙ sym (person-opened s j n h)
 
 -- an edit from the journal leaves it but for the standing number
-replayed-journal : (s t : State) (e : Edit) (m : ℕ) → replayed s e m ≡ given t → journal_of t ≡ lent s.journal s.used m
+replayed-journal : (s t : State) (e : Edit) (m : ℕ) → replayed s e m ≡ Ok t → journal_of t ≡ lent s.journal s.used m
 unfolding replayed
 replayed-journal s t e m = go (replayed_in (length s.file) (content s) e)
   where
-    go : (a : Answer (List ℕ)) → then (with_file s m) a ≡ given t → journal_of t ≡ lent s.journal s.used m
-    go (given f) h = ap journal_of (sym (given_is (with_file s m f) t h))
-    go (refused f) h = no (cc)
+    go : (a : Answer (List ℕ)) → then (with_file s m) a ≡ Ok t → journal_of t ≡ lent s.journal s.used m
+    go (Ok f) h = ap journal_of (sym (given_is (with_file s m f) t h))
+    go (Err f) h = no (cc)
 
 -- the first of some edits
-first-is : (o : List (Authored Edit)) (e : Authored Edit) → next_of o ≡ some e → (es : List (Authored Edit)) × (o ≡ e ∷ es)
+first-is : (o : List (Authored Edit)) (e : Authored Edit) → next_of o ≡ Some e → (es : List (Authored Edit)) × (o ≡ e ∷ es)
 first-is [] e h = no (cc)
 first-is (d ∷ es) e h = let i : d ≡ e = cc in (es, ap (λ (x : Authored Edit). x ∷ es) i)
 
@@ -251,7 +251,7 @@ first-is (d ∷ es) e h = let i : d ≡ e = cc in (es, ap (λ (x : Authored Edit
 module _ (s t : State) (n : ℕ) (which : Journal → List (Authored Edit)) (turn : Edit → Edit) (number : Authored Edit → ℕ) (stand wait : Journal → Authored Edit → List (Authored Edit) → List (Authored Edit))
     (ordered : (j : Journal) (e : Authored Edit) (es : List (Authored Edit)) → which j ≡ e ∷ es → in_order j ≡ reverse_aux (stand j e es) (wait j e es))
     (numbered : (j : Journal) (e : Authored Edit) (es : List (Authored Edit)) → which j ≡ e ∷ es → s.standing ≡ lengths j.stand → number e ≡ lengths (stand j e es)) where
-  turned-stays : (opened s >>= λ j. some_or (next_of (which j)) NothingLeft >>= λ e. replayed s (turn e.what) (number e)) ≡ given t → person (journal_of t) n ≡ person (journal_of s) n
+  turned-stays : (opened s >>= λ j. some_or (next_of (which j)) NothingLeft >>= λ e. replayed s (turn e.what) (number e)) ≡ Ok t → person (journal_of t) n ≡ person (journal_of s) n
   turned-stays h =
       let a = bind-given (opened s) (λ j. some_or (next_of (which j)) NothingLeft >>= λ e. replayed s (turn e.what) (number e)) t h in
       let j : Journal = a.0 in
@@ -263,14 +263,14 @@ module _ (s t : State) (n : ℕ) (which : Journal → List (Authored Edit)) (tur
       rw (replayed-journal s t (turn e.what) (number e) b.2, numbered j e f.0 f.1 w.standing)
       (persons-moved (journal_of s) j (stand j e f.0) (wait j e f.0) n o (ordered j e f.0 f.1))
 
-undo-stays : (s t : State) (n : ℕ) → undo s ≡ given t → person (journal_of t) n ≡ person (journal_of s) n
+undo-stays : (s t : State) (n : ℕ) → undo s ≡ Ok t → person (journal_of t) n ≡ person (journal_of s) n
 unfolding undo
 undo-stays s t n =
     turned-stays s t n (λ j. j.stand) turned (λ e. s.standing - edit_length e) (λ j e es. es) (λ j e es. e ∷ j.wait)
     (λ j e es i. ap (λ (x : List (Authored Edit)). reverse_aux x j.wait) i)
     (λ j e es i k. omega (arith, k, ap lengths i))
 
-redo-stays : (s t : State) (n : ℕ) → redo s ≡ given t → person (journal_of t) n ≡ person (journal_of s) n
+redo-stays : (s t : State) (n : ℕ) → redo s ≡ Ok t → person (journal_of t) n ≡ person (journal_of s) n
 unfolding redo
 redo-stays s t n =
     turned-stays s t n (λ j. j.wait) (λ e. e) (λ e. s.standing + edit_length e) (λ j e es. e ∷ j.stand) (λ j e es. es)
@@ -281,6 +281,6 @@ pub persons-stay : PersonsStay
 unfolding PersonsStay
 persons-stay s n = (go (undo s) (λ t. undo-stays s t n), go (redo s) (λ t. redo-stays s t n))
   where
-    go : (a : Answer State) → ((t : State) → a ≡ given t → person (journal_of t) n ≡ person (journal_of s) n) → person (journal_of (at_exit s a)) n ≡ person (journal_of s) n
-    go (given t) h = h t refl
-    go (refused f) h = refl
+    go : (a : Answer State) → ((t : State) → a ≡ Ok t → person (journal_of t) n ≡ person (journal_of s) n) → person (journal_of (at_exit s a)) n ≡ person (journal_of s) n
+    go (Ok t) h = h t refl
+    go (Err f) h = refl

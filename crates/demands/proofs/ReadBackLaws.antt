@@ -1,4 +1,5 @@
 -- Text set is the text read back, as far as raw values go. Assumes nothing.
+use Rattle.std.specs.Prelude.{Ok}
 use mathlib.Core.Path.{◌≡◌, refl}
 use Prim.Native.Nat.{ℕ}
 use mathlib.Core.Bool.{true}
@@ -6,18 +7,18 @@ use mathlib.Core.Bool.{Bool, false}
 use mathlib.Core.List.{List}
 use Rattle.base.proofs.Tests.{no}
 use Rattle.fault.specs.declared.Fault.TheVariants.{UnfitText}
-use Rattle.fault.specs.Answer.{given, ◌>>=◌, need}
+use Rattle.fault.specs.Answer.{◌>>=◌, need}
 use Rattle.text.specs.Escape.{write_text, raw_text, fit_text}
 use Rattle.text.proofs.ReadBack.{read_back}
 use Rattle.text.proofs.Values.{raw-text, raw-front}
 use Rattle.demands.specs.ReadBack.{WrittenIsReadBack, WrittenIsAValue, FitIsWritten}
 
 -- what was written is the raw value of a fit text
-written : (text raw : List ℕ) → write_text text ≡ given raw → (fit_text text ≡ true) × (raw ≡ raw_text text)
+written : (text raw : List ℕ) → write_text text ≡ Ok raw → (fit_text text ≡ true) × (raw ≡ raw_text text)
 unfolding write_text
 written text raw e = go (fit_text text) refl e
   where
-    go : (t : Bool) → fit_text text ≡ t → (need t UnfitText >>= λ _. given (raw_text text)) ≡ given raw → (fit_text text ≡ true) × (raw ≡ raw_text text)
+    go : (t : Bool) → fit_text text ≡ t → (need t UnfitText >>= λ _. Ok (raw_text text)) ≡ Ok raw → (fit_text text ≡ true) × (raw ≡ raw_text text)
     go true f e = (f, cc)
     go false f e = no (cc)
 

@@ -1,9 +1,9 @@
 -- Forgetting the oldest edits: what a later set or remove answers, and the room that is freed. Assumes nothing.
+use Rattle.std.specs.Prelude.{Option, Some, None, Ok, Err}
 use mathlib.Core.Path.{◌≡◌, refl, sym, ap, ◌∙◌}
 use Prim.Native.Nat.{ℕ, ◌+◌, ◌-◌, ◌≤◌}
 use native.Mathlib.Omega.{arith}
 use mathlib.Core.Bool.{Bool, true, false, false≢true}
-use mathlib.Core.Option.{Option, none, some}
 use mathlib.Core.List.{List, [], ◌∷◌, ◌++◌}
 use lib.ListN.{length, take, drop}
 use lib.Seq.{length-take-le, take-take, drop-append-le}
@@ -17,7 +17,7 @@ use Rattle.base.proofs.Tests.{no}
 use Rattle.fault.specs.declared.Fault.{Fault}
 use Rattle.fault.specs.declared.Fault.TheVariants.{TooLong, FirstGroup, RepeatedGroup, RepeatedKey, NoPlainKey, Damaged, NoRoom, JournalFull}
 use Rattle.fault.specs.Table.{number_of}
-use Rattle.fault.specs.Answer.{Answer, given, refused, ◌>>=◌, need, unless}
+use Rattle.fault.specs.Answer.{Answer, ◌>>=◌, need, unless}
 use Rattle.fault.proofs.Answers.{bind-given}
 use Rattle.fault.proofs.Refusals.{IfRefused, if-bind, if-need, if-test, if_none}
 use Rattle.line.specs.declared.Line.{Line}
@@ -46,13 +46,13 @@ use Rattle.demands.proofs.ForgetLaws.{opened_with, with-given, ready, kept_in, l
 abbrev requesting : State → Authored Request → Answer State
 requesting s q = edit_of (content s) q.what >>= λ e. applied s (by q.author e)
 
-request-with : (s : State) (q : Authored Request) (j : Journal) → alone.opened (journal_of s) ≡ given j → request s q ≡ (ready s >>= λ _. requesting s q)
+request-with : (s : State) (q : Authored Request) (j : Journal) → alone.opened (journal_of s) ≡ Ok j → request s q ≡ (ready s >>= λ _. requesting s q)
 unfolding request
 request-with s q j o = ap (λ (a : Answer Journal). a >>= λ _. requesting s q) (opened_with s j o) ∙ with-given (ready s) j (λ _. requesting s q)
 
 -- an edit for which there is room
 applied-is : (s : State) (e : Authored Edit) → file_fits (length s.file) (spliced e.what (content s)) ≡ true → record_fits (length s.journal) s.standing e ≡ true
-    → applied s e ≡ given (requested s (content s) e)
+    → applied s e ≡ Ok (requested s (content s) e)
 unfolding applied
 applied-is s e f r = rw (f, r)
 
@@ -96,7 +96,7 @@ accepted-after-forget s t u k q e h =
     let n₁ : gone ≡ s.standing - (s.standing - gone) = omega arith in
     let n : gone ≡ s.standing - t.standing = n₁ ∙ ap (λ (z : State). s.standing - z.standing) l.is in
     let f = more_room s (kept_in s k j).standing m (length (kept_in s k j).journal) l.room d.record-fits (omega arith) in
-    let y : requesting (kept_in s k j) q ≡ given v = rw d.edits (applied-is (kept_in s k j) m d.file-fits f) in
+    let y : requesting (kept_in s k j) q ≡ Ok v = rw d.edits (applied-is (kept_in s k j) m d.file-fits f) in
     let w : v.standing + s.standing ≡ u.standing + (kept_in s k j).standing = omega (arith, ap (λ (z : State). z.standing) d.is) in (
       v,
       ap (λ (z : State). request z q) (sym l.is) ∙ request-with (kept_in s k j) q (others k j) l.after ∙ rw (b.1, y),
@@ -118,12 +118,12 @@ title-not13 : (leading : List ℕ) (seen : List Title) (t : Title) (line : ℕ) 
 unfolding title_fault
 title-not13 leading [] t line again p = go (same_title t (Group leading))
   where
-    go : (b : Bool) → IfRefused Not13 (unless (pick b none (some (FirstGroup line))))
+    go : (b : Bool) → IfRefused Not13 (unless (pick b None (Some (FirstGroup line))))
     go true = tt
     go false = refl
 title-not13 leading (s ∷ seen) t line again p = go (any (same_title t) (s ∷ seen))
   where
-    go : (b : Bool) → IfRefused Not13 (unless (pick b (some again) none))
+    go : (b : Bool) → IfRefused Not13 (unless (pick b (Some again) None))
     go true = p
     go false = tt
 
@@ -139,9 +139,9 @@ unfolding earliest
 earliest-not13 leading seen [] = tt
 earliest-not13 leading seen (r ∷ rs) = go (row_fault leading seen (title r) r.line r.reading) (earliest leading (seeing (title r) seen) rs) (row-not13 leading seen (title r) r.line r.reading) (earliest-not13 leading (seeing (title r) seen) rs)
   where
-    go : (o later : Option Fault) → IfRefused Not13 (unless o) → IfRefused Not13 (unless later) → IfRefused Not13 (unless (maybe o later some))
-    go none later p q = q
-    go (some f) later p q = p
+    go : (o later : Option Fault) → IfRefused Not13 (unless o) → IfRefused Not13 (unless later) → IfRefused Not13 (unless (maybe o later Some))
+    go None later p q = q
+    go (Some f) later p q = p
 
 ready-not13 : (s : State) → IfRefused Not13 (ready s)
 unfolding check_as titled_as plain_all
@@ -159,23 +159,23 @@ module _ (s : State) (u : Lent) (q : Authored Request) where
   t = with_journal s u
 
   -- the refusals but 13 are the same
-  requesting-so : (f : Fault) → requesting s q ≡ refused f → (f ≡ JournalFull → ⊥) → requesting t q ≡ refused f
+  requesting-so : (f : Fault) → requesting s q ≡ Err f → (f ≡ JournalFull → ⊥) → requesting t q ≡ Err f
   unfolding applied
   requesting-so f h n = by-edit (edit_of (content s) q.what) h
     where
-      by-room : (x y : State) (a b c : Bool) → (need a NoRoom >>= λ _. need b JournalFull >>= λ _. given x) ≡ refused f → (need a NoRoom >>= λ _. need c JournalFull >>= λ _. given y) ≡ refused f
+      by-room : (x y : State) (a b c : Bool) → (need a NoRoom >>= λ _. need b JournalFull >>= λ _. Ok x) ≡ Err f → (need a NoRoom >>= λ _. need c JournalFull >>= λ _. Ok y) ≡ Err f
       by-room x y false b c e = e
       by-room x y true false c e = absurd (n (cc))
       by-room x y true true c e = no (cc)
 
-      by-edit : (a : Answer Edit) → (a >>= λ e. applied s (by q.author e)) ≡ refused f → (a >>= λ e. applied t (by q.author e)) ≡ refused f
-      by-edit (refused g) e = e
-      by-edit (given d) e =
+      by-edit : (a : Answer Edit) → (a >>= λ e. applied s (by q.author e)) ≡ Err f → (a >>= λ e. applied t (by q.author e)) ≡ Err f
+      by-edit (Err g) e = e
+      by-edit (Ok d) e =
           by-room (requested s (content s) (by q.author d)) (requested t (content s) (by q.author d)) (file_fits (length s.file) (spliced d (content s)))
           (record_fits (length s.journal) s.standing (by q.author d)) (record_fits (length t.journal) t.standing (by q.author d)) e
 
   -- where the edit was refused with 13, the record's room alone decides
-  requesting-room : (e : Edit) → edit_of (content s) q.what ≡ given e → requesting s q ≡ refused JournalFull
+  requesting-room : (e : Edit) → edit_of (content s) q.what ≡ Ok e → requesting s q ≡ Err JournalFull
       → told (requesting t q) ≡ told (need (record_fits (length t.journal) t.standing (by q.author e)) JournalFull)
   unfolding applied
   requesting-room e i h =
@@ -183,8 +183,8 @@ module _ (s : State) (u : Lent) (q : Authored Request) where
       (by-room (requested s (content s) (by q.author e)) (requested t (content s) (by q.author e)) (file_fits (length s.file) (spliced e (content s)))
       (record_fits (length s.journal) s.standing (by q.author e)) (record_fits (length t.journal) t.standing (by q.author e)) (rw i at h))
     where
-      by-room : (x y : State) (a b c : Bool) → (need a NoRoom >>= λ _. need b JournalFull >>= λ _. given x) ≡ refused JournalFull
-          → told (need a NoRoom >>= λ _. need c JournalFull >>= λ _. given y) ≡ told (need c JournalFull)
+      by-room : (x y : State) (a b c : Bool) → (need a NoRoom >>= λ _. need b JournalFull >>= λ _. Ok x) ≡ Err JournalFull
+          → told (need a NoRoom >>= λ _. need c JournalFull >>= λ _. Ok y) ≡ told (need c JournalFull)
       by-room x y false b c e = no (cc)
       by-room x y true b true e = refl
       by-room x y true b false e = refl
@@ -198,9 +198,9 @@ refused-after-forget s t k q f e h n =
     let a = request-with s q j o.1 in
     ap (λ (z : State). request z q) (sym l.is) ∙ request-with (kept_in s k j) q (others k j) l.after ∙ go (ready s) (sym a ∙ h) (requesting-so s (journal_of (kept_in s k j)) q f)
   where
-    go : {x y : Answer State} (a : Answer (Unit {0})) → (a >>= λ _. x) ≡ refused f → (x ≡ refused f → (f ≡ JournalFull → ⊥) → y ≡ refused f) → (a >>= λ _. y) ≡ refused f
-    go (given u) i next = next i n
-    go (refused g) i next = i
+    go : {x y : Answer State} (a : Answer (Unit {0})) → (a >>= λ _. x) ≡ Err f → (x ≡ Err f → (f ≡ JournalFull → ⊥) → y ≡ Err f) → (a >>= λ _. y) ≡ Err f
+    go (Ok u) i next = next i n
+    go (Err g) i next = i
 
 pub room-after-forget : RoomAfterForget
 unfolding RoomAfterForget
@@ -208,7 +208,7 @@ room-after-forget s t k q d e h i =
     let o = left-some s t k e in
     let j : Journal = o.0 in
     let l = left s t k j o.1 e in
-    let a : (ready s >>= λ _. requesting s q) ≡ refused JournalFull = sym (request-with s q j o.1) ∙ h in
+    let a : (ready s >>= λ _. requesting s q) ≡ Err JournalFull = sym (request-with s q j o.1) ∙ h in
     let b = go (ready s) (ready-not13 s) a in
     let c : request (kept_in s k j) q ≡ requesting (kept_in s k j) q = request-with (kept_in s k j) q (others k j) l.after ∙ ap (λ (x : Answer (Unit {0})). x >>= λ _. requesting (kept_in s k j) q) b.0 in
     ap (λ (z : State). told (request z q)) (sym l.is)
@@ -217,6 +217,6 @@ room-after-forget s t k q d e h i =
     ∙ ap (λ (n : ℕ). told (need (record_fits n (kept_in s k j).standing (by q.author d)) JournalFull)) l.room
     ∙ ap (λ (z : State). told (need (record_fits (length s.journal) z.standing (by q.author d)) JournalFull)) l.is
   where
-    go : {x : Answer State} (a : Answer (Unit {0})) → IfRefused Not13 a → (a >>= λ _. x) ≡ refused JournalFull → (a ≡ given tt) × (x ≡ refused JournalFull)
-    go (given u) p e = (refl, e)
-    go (refused f) p e = let g : f ≡ JournalFull = cc in let z : true ≡ false = rw g at p in absurd (false≢true (sym z))
+    go : {x : Answer State} (a : Answer (Unit {0})) → IfRefused Not13 a → (a >>= λ _. x) ≡ Err JournalFull → (a ≡ Ok tt) × (x ≡ Err JournalFull)
+    go (Ok u) p e = (refl, e)
+    go (Err f) p e = let g : f ≡ JournalFull = cc in let z : true ≡ false = rw g at p in absurd (false≢true (sym z))

@@ -1,12 +1,12 @@
 -- Name and Icon in an expansion are those of the public choice. Assumes nothing.
+use Rattle.std.specs.Prelude.{Option, Some, None, Ok}
 use mathlib.Core.Path.{◌≡◌, refl, ◌∙◌}
 use Prim.Native.Nat.{ℕ}
 use mathlib.Core.Bool.{true, ◌&&◌}
-use mathlib.Core.Option.{Option, none, some}
 use mathlib.Core.List.{List}
 use Rattle.base.specs.Lists.{ascii, part, all}
 use Rattle.fault.specs.declared.Fault.TheVariants.{Missing}
-use Rattle.fault.specs.Answer.{given, ◌>>=◌, some_or, then}
+use Rattle.fault.specs.Answer.{◌>>=◌, some_or, then}
 use Rattle.characters.specs.Class.{key_byte}
 use Rattle.text.specs.Escape.{read_text}
 use Rattle.text.specs.Step.{text_of}
@@ -36,7 +36,7 @@ icon-is-chosen file group locale c g l =
     rw (choose-is file group (ascii "Icon") locale c (icon-forms group locale g l))
     (icon-chosen file locale group ∙ by (chosen (read_rows file) group (ascii "Icon") locale))
   where
-    by : (o : Option Row) → read_text (text_of (then (λ e. part e.from e.to file) (some_or o Missing >>= λ r. given (value_ends r))))
-        ≡ (or_none (then (λ e. part e.from e.to file) (some_or o Missing >>= λ r. given (value_ends r))) >>= read_text)
-    by none = refl
-    by (some r) = refl
+    by : (o : Option Row) → read_text (text_of (then (λ e. part e.from e.to file) (some_or o Missing >>= λ r. Ok (value_ends r))))
+        ≡ (or_none (then (λ e. part e.from e.to file) (some_or o Missing >>= λ r. Ok (value_ends r))) >>= read_text)
+    by None = refl
+    by (Some r) = refl

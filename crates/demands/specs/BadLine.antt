@@ -1,10 +1,9 @@
 -- Refusal 2 names the bad line and the byte in it, in every call that gives it (02, A6). Assumes nothing.
-use Rattle.std.specs.Prelude.{ℕ, ◌+◌, ◌-◌, ◌≤◌, ◌<◌, ◌≡◌, Bool, true, false, List, [], ◌++◌, length, take, get_or}
-use Rattle.std.proofs.Math.Option.{some}
+use Rattle.std.specs.Prelude.{ℕ, ◌+◌, ◌-◌, ◌≤◌, ◌<◌, ◌≡◌, Bool, true, false, List, [], ◌++◌, length, take, get_or, Some, Err}
 use Rattle.base.specs.Lists.{any}
 use Rattle.fault.specs.declared.Fault.{Fault}
 use Rattle.fault.specs.declared.Fault.TheVariants.{BadLine}
-use Rattle.fault.specs.Answer.{Answer, refused, unless}
+use Rattle.fault.specs.Answer.{Answer, unless}
 use Rattle.line.specs.Line.{read_line, is_bad}
 use Rattle.line.specs.Place.{Mended}
 use Rattle.rows.specs.Rows.{rows, line_of}
@@ -41,7 +40,7 @@ pub record BadAt (file : List ℕ) (line byte : ℕ) : Type 0 where
 
 -- a bad line that this answer tells is the file's
 abbrev pub TellsOf : {A : Type 0} → List ℕ → Answer A → Type 0
-TellsOf file a = (line byte : ℕ) → a ≡ refused (BadLine line byte) → BadAt file line byte
+TellsOf file a = (line byte : ℕ) → a ≡ Err (BadLine line byte) → BadAt file line byte
 
 -- what the check tells of a bad line is so
 unfoldable pub BadLineTold : Type 0
@@ -71,15 +70,15 @@ lends_file (Forget k) = false
 
 -- a refusal that every other call on a file gives; one that edits gives it where the lengths fit, and a batch has nothing done then
 pub record PassedOn (file : List ℕ) (f : Fault) : Type 0 where
-  pub complete_refuses : complete file ≡ refused f
-  pub lookup_refuses : (group key : List ℕ) → lookup file group key ≡ refused f
-  pub choose_refuses : (group key locale : List ℕ) → choose file group key locale ≡ refused f
-  pub expand_refuses : (locale location list : List ℕ) (run : ℕ) → expand file locale location list run ≡ refused f
-  pub actions_refuses : (locale : List ℕ) → actions file locale ≡ refused f
-  pub expand_action_refuses : (action locale location list : List ℕ) (run : ℕ) → expand_action file action locale location list run ≡ refused f
-  pub edits_refuse : (s : State) (c : Call) → lends_file c ≡ true → lengths_fit s ≡ true → content s ≡ file → state_call s c ≡ refused f
-  pub batch_refuses : (s : State) (author : Author) (list : List ℕ) → lengths_fit s ≡ true → content s ≡ file → batch s author list ≡ nothing s (some f)
+  pub complete_refuses : complete file ≡ Err f
+  pub lookup_refuses : (group key : List ℕ) → lookup file group key ≡ Err f
+  pub choose_refuses : (group key locale : List ℕ) → choose file group key locale ≡ Err f
+  pub expand_refuses : (locale location list : List ℕ) (run : ℕ) → expand file locale location list run ≡ Err f
+  pub actions_refuses : (locale : List ℕ) → actions file locale ≡ Err f
+  pub expand_action_refuses : (action locale location list : List ℕ) (run : ℕ) → expand_action file action locale location list run ≡ Err f
+  pub edits_refuse : (s : State) (c : Call) → lends_file c ≡ true → lengths_fit s ≡ true → content s ≡ file → state_call s c ≡ Err f
+  pub batch_refuses : (s : State) (author : Author) (list : List ℕ) → lengths_fit s ≡ true → content s ≡ file → batch s author list ≡ nothing s (Some f)
 
 -- the check's refusal is passed on by all of them
 unfoldable pub CheckPassedOn : Type 0
-CheckPassedOn = (file : List ℕ) (f : Fault) → check file ≡ refused f → PassedOn file f
+CheckPassedOn = (file : List ℕ) (f : Fault) → check file ≡ Err f → PassedOn file f

@@ -1,9 +1,8 @@
 -- A batch, many set and remove requests in one call, is the single calls tried, and tells by how many the standing records grew (02, A4).
 -- Assumes nothing.
-use Rattle.std.specs.Prelude.{◌≡◌, ℕ, ◌+◌, ◌<◌, List, [], ◌∷◌, ◌++◌, map, length, take, replicate}
-use Rattle.std.proofs.Math.Option.{none, some}
+use Rattle.std.specs.Prelude.{◌≡◌, ℕ, ◌+◌, ◌<◌, List, [], ◌∷◌, ◌++◌, map, length, take, replicate, Some, None, Ok, Err}
 use Rattle.fault.specs.declared.Fault.{Fault}
-use Rattle.fault.specs.Answer.{given, refused, unless}
+use Rattle.fault.specs.Answer.{unless}
 use Rattle.change.specs.Change.{Request}
 use Rattle.journal.specs.Journal.{Author, by, person_of, Journal}
 use Rattle.edit.specs.Calls.{State, opened}
@@ -26,8 +25,8 @@ tried author qs tolds = map (λ q. Do (by author q)) (take (length tolds) qs)
 
 -- the calls that take a batch's place, and what is told of them; none where it is refused at first, for lengths, file, journal or list
 pub data InPlaceOf (s : State) (author : Author) (list : List ℕ) (tolds : List Told) : List Call → List Told → Type 0 where
-  read : {qs : List Request} → listed s list ≡ given qs → InPlaceOf s author list tolds (tried author qs tolds) tolds
-  unread : {f : Fault} → listed s list ≡ refused f → InPlaceOf s author list tolds [] []
+  read : {qs : List Request} → listed s list ≡ Ok qs → InPlaceOf s author list tolds (tried author qs tolds) tolds
+  unread : {f : Fault} → listed s list ≡ Err f → InPlaceOf s author list tolds [] []
 
 -- over a list of calls the buffers tell this and are left so
 pub record AsTheCalls (s : State) (calls : List Call) (tolds : List Told) (t : State) : Type 0 where
@@ -42,15 +41,15 @@ BatchIsCalls = (s : State) (author : Author) (list : List ℕ) (calls : List Cal
 
 -- it does all that its list asks for unless one is refused
 unfoldable pub BatchDoesAll : Type 0
-BatchDoesAll = (s : State) (author : Author) (list : List ℕ) (qs : List Request) → listed s list ≡ given qs
-    → (batch s author list).stopped ≡ none → (batch s author list).done ≡ length qs
+BatchDoesAll = (s : State) (author : Author) (list : List ℕ) (qs : List Request) → listed s list ≡ Ok qs
+    → (batch s author list).stopped ≡ None → (batch s author list).done ≡ length qs
 
 -- a batch refused at first has nothing done
 unfoldable pub BatchRefusedAtFirst : Type 0
-BatchRefusedAtFirst = (s : State) (author : Author) (list : List ℕ) (f : Fault) → listed s list ≡ refused f → batch s author list ≡ nothing s (some f)
+BatchRefusedAtFirst = (s : State) (author : Author) (list : List ℕ) (f : Fault) → listed s list ≡ Err f → batch s author list ≡ nothing s (Some f)
 
 -- the number done is by how many the standing records grew, in any journal, also one that others wrote
 unfoldable pub BatchGrew : Type 0
-BatchGrew = (s : State) (author : Author) (list : List ℕ) (j : Journal) → person_of author < 65536 → opened s ≡ given j →
+BatchGrew = (s : State) (author : Author) (list : List ℕ) (j : Journal) → person_of author < 65536 → opened s ≡ Ok j →
     let b : Batch = batch s author list in
-    (k : Journal) × (opened b.state ≡ given k) × (length k.stand ≡ length j.stand + b.done)
+    (k : Journal) × (opened b.state ≡ Ok k) × (length k.stand ≡ length j.stand + b.done)

@@ -1,11 +1,11 @@
 -- The book of demand 3: fed the starting file, both buffers' sizes and the calls, it keeps two lists of requests (01, "Edits and the journal";
 -- 02, A9 and A10). Assumes nothing.
-use Rattle.std.specs.Prelude.{ℕ, ◌+◌, ◌≡◌, length, leb}
+use Rattle.std.specs.Prelude.{ℕ, ◌+◌, ◌≡◌, length, leb, Ok, Err}
 use mathlib.Core.List.{List, [], ◌∷◌, reverse_aux}
 use Rattle.fault.specs.declared.Fault.{Fault}
 use Rattle.fault.specs.declared.Fault.TheVariants.{NoRoom, NothingLeft, JournalFull}
 use Rattle.fault.specs.Table.{place_of, byte_of}
-use Rattle.fault.specs.Answer.{Answer, given, refused, ◌>>=◌, need, then, at_exit}
+use Rattle.fault.specs.Answer.{Answer, ◌>>=◌, need, then, at_exit}
 use Rattle.splice.specs.Edit.{spliced}
 use Rattle.change.specs.Change.{Request, edit_of}
 use Rattle.journal.specs.Journal.{Authored, by, edit_length, oldest, newer}
@@ -60,17 +60,17 @@ book_request b q = do
   e ← edit_of (book_file b) q.what
   _ ← need (file_fits b.file_room (spliced e (book_file b))) NoRoom
   _ ← need (record_fits b.journal_room (book_standing b) (by q.author e)) JournalFull
-  given (with_lists b (q ∷ b.standing) [])
+  Ok (with_lists b (q ∷ b.standing) [])
 
 -- undo: 12 if none stands; else the last standing becomes the first waiting
 abbrev pub book_undo : Book → List (Authored Request) → Answer Book
-book_undo b [] = refused NothingLeft
-book_undo b (q ∷ qs) = given (with_lists b qs (q ∷ b.waiting))
+book_undo b [] = Err NothingLeft
+book_undo b (q ∷ qs) = Ok (with_lists b qs (q ∷ b.waiting))
 
 -- redo: 12 if none waits; else the first waiting becomes the last standing
 abbrev pub book_redo : Book → List (Authored Request) → Answer Book
-book_redo b [] = refused NothingLeft
-book_redo b (q ∷ qs) = given (with_lists b (q ∷ b.standing) qs)
+book_redo b [] = Err NothingLeft
+book_redo b (q ∷ qs) = Ok (with_lists b (q ∷ b.standing) qs)
 
 -- the book without its oldest requests: they leave the standing list, and the starting bytes are those after them
 abbrev pub without_oldest : Book → ℕ → Book
@@ -87,7 +87,7 @@ without_oldest b k =
 unfoldable pub book_forget : Book → ℕ → Answer Book
 book_forget b k = do
   _ ← need (leb k (length b.standing)) NothingLeft
-  given (without_oldest b k)
+  Ok (without_oldest b k)
 
 -- a call to the book
 abbrev pub book_call : Book → Call → Answer Book
@@ -98,4 +98,4 @@ book_call b (Forget k) = book_forget b k
 
 -- a refusal has place 0 and byte 0
 unfoldable pub BookRefusesAtZero : Type 0
-BookRefusesAtZero = (b : Book) (c : Call) (f : Fault) → book_call b c ≡ refused f → (place_of f ≡ 0) × (byte_of f ≡ 0)
+BookRefusesAtZero = (b : Book) (c : Call) (f : Fault) → book_call b c ≡ Err f → (place_of f ≡ 0) × (byte_of f ≡ 0)

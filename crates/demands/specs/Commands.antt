@@ -1,12 +1,11 @@
 -- Demand 2's sentence about pupils' files, of both public expansions: each file name reaches the program as one argument, or inside the one that
 -- holds its code, with its own bytes. Assumes nothing.
-use Rattle.std.specs.Prelude.{ℕ, ◌≤◌, ◌<◌, ◌≡◌, Bool, true, not, ◌&&◌, List, [], ◌∷◌, ◌++◌, length, get_or, eqb}
-use Rattle.std.proofs.Math.Option.{some}
+use Rattle.std.specs.Prelude.{ℕ, ◌≤◌, ◌<◌, ◌≡◌, Bool, true, not, ◌&&◌, List, [], ◌∷◌, ◌++◌, length, get_or, eqb, Some, Ok, Err}
 use Rattle.base.specs.Bounds.{list_most}
 use Rattle.base.specs.Choice.{pick}
 use Rattle.base.specs.Lists.{ascii, any}
 use Rattle.fault.specs.declared.Fault.TheVariants.{Missing}
-use Rattle.fault.specs.Answer.{Answer, given, refused, ◌>>=◌, some_or, accepted}
+use Rattle.fault.specs.Answer.{Answer, ◌>>=◌, some_or, accepted}
 use Rattle.record.specs.Record.{read_list, list_of}
 use Rattle.text.specs.Escape.{read_text}
 use Rattle.rows.specs.Rows.{read_rows, raw_value}
@@ -44,10 +43,10 @@ pub record Expansion (by : Expander) (file locale location list : List ℕ) (run
   pub command : List Argument
   pub files : List (List ℕ)
   pub args : List (List ℕ)
-  pub commanded : command_in by.group file ≡ given command
-  pub listed : read_list 2 list_most list ≡ some files
-  pub is : by.expansion file locale location list run ≡ given out
-  pub reads_back : read_list 3 (length out) out ≡ some args
+  pub commanded : command_in by.group file ≡ Ok command
+  pub listed : read_list 2 list_most list ≡ Some files
+  pub is : by.expansion file locale location list run ≡ Ok out
+  pub reads_back : read_list 3 (length out) out ≡ Some args
 
 -- f or u stands in a command
 abbrev pub takes_item : List Argument → Bool
@@ -59,10 +58,10 @@ run_count command n = pick (takes_item command && not (eqb n 0)) n 1
 
 pub record FilesReach (by : Expander) : Type 0 where
   -- every accepted output reads back to its arguments
-  pub arguments_read_back : (file locale location list : List ℕ) (run : ℕ) (out : List ℕ) → by.expansion file locale location list run ≡ given out
+  pub arguments_read_back : (file locale location list : List ℕ) (run : ℕ) (out : List ℕ) → by.expansion file locale location list run ≡ Ok out
       → Expansion by file locale location list run out
   -- one code at most takes files
-  pub one_takes_files : (file : List ℕ) (command : List Argument) → command_in by.group file ≡ given command → all_file_codes command ≤ 1
+  pub one_takes_files : (file : List ℕ) (command : List Argument) → command_in by.group file ≡ Ok command → all_file_codes command ≤ 1
   -- F and U: each file is one whole argument with its own bytes, in the list's order; what stands before and after is the same for every list and run
   pub files_are_whole : (file locale location : List ℕ) (front back : List Argument) → (r : Run)
       × ((list : List ℕ) (run : ℕ) (out : List ℕ) (x : Expansion by file locale location list run out) → x.command ≡ front ++ (Files ∷ back)
@@ -75,11 +74,11 @@ pub record FilesReach (by : Expander) : Type 0 where
   -- f and u: the run is the one run of a list that holds only its own file, so no other file can be in it
   pub no_other_file : (file locale location list : List ℕ) (run : ℕ) (out : List ℕ) (x : Expansion by file locale location list run out)
       → takes_item x.command ≡ true → run < length x.files
-      → by.expansion file locale location (list_of 2 (get_or x.files run [] ∷ [])) 0 ≡ given out
+      → by.expansion file locale location (list_of 2 (get_or x.files run [] ∷ [])) 0 ≡ Ok out
   -- the runs are numbered from 0, and any other number is 8
   pub runs_are_numbered : (file locale location list : List ℕ) (run : ℕ) (out : List ℕ) (x : Expansion by file locale location list run out) (n : ℕ)
       → (n < run_count x.command (length x.files) → accepted (by.expansion file locale location list n) ≡ true)
-      × (run_count x.command (length x.files) ≤ n → by.expansion file locale location list n ≡ refused Missing)
+      × (run_count x.command (length x.files) ≤ n → by.expansion file locale location list n ≡ Err Missing)
 
 -- so it is of the application
 abbrev pub FilesReachTheProgram : Type 0

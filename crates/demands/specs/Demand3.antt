@@ -1,10 +1,10 @@
 -- Demand 3: over any list of calls the lent buffers tell what the book tells, and hold its file (01, "Edits and the journal"; 02, A9 and A10).
 -- Assumes nothing.
-use Rattle.std.specs.Prelude.{◌≡◌, ℕ, Bool, true, List, [], ◌∷◌, ◌++◌, length, eqb, leb}
+use Rattle.std.specs.Prelude.{◌≡◌, ℕ, Bool, true, List, [], ◌∷◌, ◌++◌, length, eqb, leb, Ok, Err}
 use Rattle.base.specs.Lists.{all}
 use Rattle.fault.specs.declared.Fault.{Fault}
 use Rattle.fault.specs.Table.{number_of, place_of, byte_of}
-use Rattle.fault.specs.Answer.{Answer, given, refused, then, at_exit}
+use Rattle.fault.specs.Answer.{Answer, then, at_exit}
 use Rattle.wellformed.specs.WellFormed.{well_formed}
 use Rattle.journal.specs.Journal.{person_of, kind_of}
 use Rattle.journal.specs.Lent.{Lent, forget}
@@ -47,8 +47,8 @@ told_of f = Refused (number_of f) (place_of f) (byte_of f)
 
 -- what an answer tells
 abbrev pub told : {A : Type 0} → Answer A → Told
-told (given a) = Accepted
-told (refused f) = told_of f
+told (Ok a) = Accepted
+told (Err f) = told_of f
 
 -- what is told over a list of calls, each on what the one before left
 unfoldable pub told_over : {A : Type 0} → (A → Call → Answer A) → A → List Call → List Told

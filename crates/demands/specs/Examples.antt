@@ -1,9 +1,9 @@
 -- The examples of 01 that are marked P, in its order, and its record as A9 has it: one table, under the one claim `ExamplesHold`. Assumes
 -- nothing.
-use Rattle.std.specs.Prelude.{ℕ, ◌≡◌, List, [], ◌∷◌, ◌++◌, map, length, take, replicate}
+use Rattle.std.specs.Prelude.{ℕ, ◌≡◌, List, [], ◌∷◌, ◌++◌, map, length, take, replicate, Ok, Err}
 use Rattle.base.specs.Lists.{ascii}
 use Rattle.fault.specs.Table.{number_of, place_of, byte_of}
-use Rattle.fault.specs.Answer.{Answer, given, refused}
+use Rattle.fault.specs.Answer.{Answer}
 use Rattle.text.specs.Escape.{read_text, write_text}
 use Rattle.text.specs.Element.{read_elements}
 use Rattle.wellformed.specs.Check.{check}
@@ -22,8 +22,8 @@ pub data Shown : Type 0 where
 
 -- what an answer shows
 abbrev pub shown : {A : Type 0} → (A → List (List ℕ)) → Answer A → Shown
-shown f (given a) = Gives (f a)
-shown f (refused e) = Refuses (number_of e) (place_of e) (byte_of e)
+shown f (Ok a) = Gives (f a)
+shown f (Err e) = Refuses (number_of e) (place_of e) (byte_of e)
 
 -- a row of the table
 pub record Example : Type 0 where
@@ -47,13 +47,13 @@ checks f = shown (λ u. []) (check f)
 abbrev pub name_in : List ℕ → Shown
 name_in line =
     let f : List ℕ = file (ascii "[Desktop Entry]" ∷ line ∷ []) in
-    shown (λ (e : Extent). part_of f (given e) ∷ []) (lookup f (ascii "Desktop Entry") (ascii "Name"))
+    shown (λ (e : Extent). part_of f (Ok e) ∷ []) (lookup f (ascii "Desktop Entry") (ascii "Name"))
 
 -- the value that a locale takes among these entries
 abbrev pub name_for : List ℕ → List (List ℕ) → Shown
 name_for locale entries =
     let f : List ℕ = file (ascii "[Desktop Entry]" ∷ entries) in
-    shown (λ (e : Extent). part_of f (given e) ∷ []) (choose f (ascii "Desktop Entry") (ascii "Name") locale)
+    shown (λ (e : Extent). part_of f (Ok e) ∷ []) (choose f (ascii "Desktop Entry") (ascii "Name") locale)
 
 -- the elements of a raw value, as records
 abbrev pub elements : List ℕ → Shown

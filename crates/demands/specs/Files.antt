@@ -1,10 +1,9 @@
 -- What holds of checking, lookup and choice together (demands 1 and 2). Assumes nothing.
-use Rattle.std.specs.Prelude.{◌≡◌, ℕ, ◌+◌, Bool, true, false, not, ◌&&◌, List, [], ◌∷◌, ◌++◌, drop, eqb}
-use Rattle.std.proofs.Math.Option.{Option, none, some}
+use Rattle.std.specs.Prelude.{◌≡◌, ℕ, ◌+◌, Bool, true, false, not, ◌&&◌, List, [], ◌∷◌, ◌++◌, drop, eqb, Option, Some, None, Ok, Err}
 use Rattle.base.specs.Choice.{maybe}
 use Rattle.base.specs.Lists.{part, span, any}
 use Rattle.fault.specs.declared.Fault.TheVariants.{BadArgument, Missing}
-use Rattle.fault.specs.Answer.{Answer, given, refused, ◌>>=◌, need, some_or, then, accepted}
+use Rattle.fault.specs.Answer.{Answer, ◌>>=◌, need, some_or, then, accepted}
 use Rattle.characters.specs.Class.{key_byte}
 use Rattle.line.specs.Locale.{parts}
 use Rattle.line.specs.Form.{group_form, key_form, plain_form, locale_form}
@@ -28,13 +27,13 @@ chosen_part file group key locale = then (λ e. part e.from e.to file) (choose f
 unfoldable pub LookupMisses : Type 0
 LookupMisses = (file group key : List ℕ) → well_formed file ≡ true → (group_form group && key_form key) ≡ true
     → (has (read_rows file) (Key group key) ≡ true → accepted (lookup file group key) ≡ true)
-    × (has (read_rows file) (Key group key) ≡ false → lookup file group key ≡ refused Missing)
+    × (has (read_rows file) (Key group key) ≡ false → lookup file group key ≡ Err Missing)
 
 -- choice is refused with 8 exactly if the plain key is missing, or its whole group
 unfoldable pub ChoiceMisses : Type 0
 ChoiceMisses = (file group key locale : List ℕ) → well_formed file ≡ true → (group_form group && plain_form key && locale_form locale) ≡ true
-    → (choose file group key locale ≡ refused Missing → has (read_rows file) (Key group key) ≡ false)
-    × (has (read_rows file) (Key group key) ≡ false → choose file group key locale ≡ refused Missing)
+    → (choose file group key locale ≡ Err Missing → has (read_rows file) (Key group key) ≡ false)
+    × (has (read_rows file) (Key group key) ≡ false → choose file group key locale ≡ Err Missing)
 
 -- a row names a key in a group, encodings apart
 abbrev pub names : List ℕ → List ℕ → Row → Bool
@@ -49,12 +48,12 @@ ChoiceTakesFirst = (file group key locale k : List ℕ) (before after : List (Li
     → read_rows file ≡ above ++ (r ∷ below)
     → any (names group k) above ≡ false
     → names group k r ≡ true
-    → choose file group key locale ≡ given (value_ends r)
+    → choose file group key locale ≡ Ok (value_ends r)
 
 -- the first of the keys that is in the group, each compared whole: 01's choice
 unfoldable pub first_whole : List Row → List ℕ → List (List ℕ) → Option Row
-first_whole rs group [] = none
-first_whole rs group (k ∷ ks) = let later : Option Row = first_whole rs group ks in maybe (find_row rs (Key group k)) later some
+first_whole rs group [] = None
+first_whole rs group (k ∷ ks) = let later : Option Row = first_whole rs group ks in maybe (find_row rs (Key group k)) later Some
 
 -- the call, as it was in 01
 unfoldable pub choose_whole : List ℕ → List ℕ → List ℕ → List ℕ → Answer Extent
@@ -62,7 +61,7 @@ choose_whole file group key locale = do
   _ ← check file
   _ ← need (group_form group && plain_form key && locale_form locale) BadArgument
   r ← some_or (first_whole (read_rows file) group (keys_of key locale)) Missing
-  given (value_ends r)
+  Ok (value_ends r)
 
 -- the postfix of the key that a row names has an encoding
 abbrev pub has_encoding : Title → Bool

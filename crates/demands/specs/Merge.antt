@@ -1,8 +1,8 @@
 -- Two teachers, one file: what holds of people who edit copies of it in parallel and merge afterwards (02, A14). That every other entry reads
 -- as before is `OthersReadAsBefore` of Edits. Assumes nothing.
-use Rattle.std.specs.Prelude.{◌≡◌, ℕ, Bool, true, false, List, [], ◌∷◌}
+use Rattle.std.specs.Prelude.{◌≡◌, ℕ, Bool, true, false, List, [], ◌∷◌, Ok}
 use Rattle.base.specs.Lists.{any, all}
-use Rattle.fault.specs.Answer.{Answer, given, ◌>>=◌, accepted}
+use Rattle.fault.specs.Answer.{Answer, ◌>>=◌, accepted}
 use Rattle.rows.specs.Title.{Title, Key, same_title}
 use Rattle.choice.specs.Locale.{stripped_title, keys_of}
 use Rattle.entry.specs.Lookup.{lookup}
@@ -19,13 +19,13 @@ SetsCommute = (s s₁ s₂ r r₂ r₁ : State) (author₁ author₂ : Author) (
     → accepted (lookup (content s) group₁ key₁) ≡ true
     → accepted (lookup (content s) group₂ key₂) ≡ true
     → same_title (Key group₁ key₁) (Key group₂ key₂) ≡ false
-    → request s (by author₁ (Set group₁ key₁ text₁)) ≡ given s₁ → request s₁ (by author₂ (Set group₂ key₂ text₂)) ≡ given s₂
-    → request r (by author₂ (Set group₂ key₂ text₂)) ≡ given r₂ → request r₂ (by author₁ (Set group₁ key₁ text₁)) ≡ given r₁
+    → request s (by author₁ (Set group₁ key₁ text₁)) ≡ Ok s₁ → request s₁ (by author₂ (Set group₂ key₂ text₂)) ≡ Ok s₂
+    → request r (by author₂ (Set group₂ key₂ text₂)) ≡ Ok r₂ → request r₂ (by author₁ (Set group₁ key₁ text₁)) ≡ Ok r₁
     → content s₂ ≡ content r₁
 
 -- the calls of a list in turn: what they leave, or the first refusal
 abbrev pub request_all : State → List (Authored Request) → Answer State
-request_all s [] = given s
+request_all s [] = Ok s
 request_all s (q ∷ qs) = request s q >>= λ t. request_all t qs
 
 -- a request sets an entry that a file has
@@ -47,8 +47,8 @@ SetListsCommute = (s s₁ s₂ r r₂ r₁ : State) (ps qs : List (Authored Requ
     → all_set_present (content s) ps ≡ true
     → all_set_present (content s) qs ≡ true
     → meet ps qs ≡ false
-    → request_all s ps ≡ given s₁ → request_all s₁ qs ≡ given s₂
-    → request_all r qs ≡ given r₂ → request_all r₂ ps ≡ given r₁
+    → request_all s ps ≡ Ok s₁ → request_all s₁ qs ≡ Ok s₂
+    → request_all r qs ≡ Ok r₂ → request_all r₂ ps ≡ Ok r₁
     → content s₂ ≡ content r₁
 
 -- an entry is among the candidates of a choice, its encoding apart: the keys that the locale asks for, the plain key among them
@@ -57,6 +57,6 @@ is_candidate entry group key locale = any (λ k. same_title (Key group k) (strip
 
 -- the raw value chosen by language, or the refusal, may change only where the edited entry is among the candidates
 unfoldable pub ChoiceReadsAsBefore : Type 0
-ChoiceReadsAsBefore = (s t : State) (q : Authored Request) (group key locale : List ℕ) → request s q ≡ given t
+ChoiceReadsAsBefore = (s t : State) (q : Authored Request) (group key locale : List ℕ) → request s q ≡ Ok t
     → is_candidate (asked_entry q.what) group key locale ≡ false
     → chosen_part (content t) group key locale ≡ chosen_part (content s) group key locale

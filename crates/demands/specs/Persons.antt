@@ -1,10 +1,10 @@
 -- Who made which edit: the person told of a record is the one given to the call that made it (02, A9). Assumes nothing.
-use Rattle.std.specs.Prelude.{◌≡◌, ℕ, suc, ◌<◌, true, List, ◌++◌, length}
+use Rattle.std.specs.Prelude.{◌≡◌, ℕ, suc, ◌<◌, true, List, ◌++◌, length, Ok, Err}
 use Rattle.base.specs.Bounds.{journal_most}
 use Rattle.base.specs.Choice.{there}
 use Rattle.base.specs.Lists.{all}
 use Rattle.fault.specs.declared.Fault.TheVariants.{NothingLeft}
-use Rattle.fault.specs.Answer.{given, refused, at_exit}
+use Rattle.fault.specs.Answer.{at_exit}
 use Rattle.record.specs.Record.{read_list}
 use Rattle.wellformed.specs.WellFormed.{well_formed}
 use Rattle.change.specs.Change.{Request}
@@ -25,10 +25,10 @@ PersonsAsInTheBook = (start rest journal : List ℕ) (calls : List Call) (n : �
 -- The same of one set or remove on any journal, also one that others wrote: the record behind those that stood is told by the person of the
 -- call, these are told as before, and no record follows.
 unfoldable pub PersonTold : Type 0
-PersonTold = (s t : State) (q : Authored Request) (j : Journal) → person_fits (Do q) ≡ true → opened s ≡ given j → request s q ≡ given t
-    → (person (journal_of t) (length j.stand) ≡ given (person_of q.author))
+PersonTold = (s t : State) (q : Authored Request) (j : Journal) → person_fits (Do q) ≡ true → opened s ≡ Ok j → request s q ≡ Ok t
+    → (person (journal_of t) (length j.stand) ≡ Ok (person_of q.author))
     × ((n : ℕ) → n < length j.stand → person (journal_of t) n ≡ person (journal_of s) n)
-    × (person (journal_of t) (suc (length j.stand)) ≡ refused NothingLeft)
+    × (person (journal_of t) (suc (length j.stand)) ≡ Err NothingLeft)
 
 -- undo and redo change no person
 unfoldable pub PersonsStay : Type 0

@@ -1,4 +1,5 @@
 -- An edit written to the journal and made in the file. Assumes nothing.
+use Rattle.std.specs.Prelude.{Ok, Err}
 use mathlib.Core.Path.{◌≡◌, refl, sym, ap, ◌∙◌}
 use mathlib.Core.Bool.{Bool, true, false, ◌&&◌}
 use mathlib.Core.List.{List, ◌++◌}
@@ -17,7 +18,7 @@ use Rattle.record.proofs.Numbers.{length-number}
 use Rattle.record.proofs.Sizes.{length-head}
 use Rattle.fault.specs.declared.Fault.{Fault}
 use Rattle.fault.specs.declared.Fault.TheVariants.{NoRoom, JournalFull}
-use Rattle.fault.specs.Answer.{Answer, given, refused, ◌>>=◌, need, then, at_exit}
+use Rattle.fault.specs.Answer.{Answer, ◌>>=◌, need, then, at_exit}
 use Rattle.base.proofs.Tests.{no}
 use Rattle.splice.specs.Edit.{Edit, replaced, spliced, buffer_with}
 use Rattle.journal.specs.Journal.{Author, Authored, by, front_length, Journal, edit_record, edit_length}
@@ -87,16 +88,16 @@ fits_both : (n a b : ℕ) → n ≤ a → n ≤ b → (leb n a && leb n b) ≡ t
 fits_both n a b h k = rw (le-leb n a h, le-leb n b k)
 
 module _ (s : State) (e : Authored Edit) where
-  no_room : file_fits (length s.file) (spliced e.what (content s)) ≡ false → applied s e ≡ refused NoRoom
+  no_room : file_fits (length s.file) (spliced e.what (content s)) ≡ false → applied s e ≡ Err NoRoom
   unfolding applied
   no_room f = rw f
 
-  no_record : file_fits (length s.file) (spliced e.what (content s)) ≡ true → record_fits (length s.journal) s.standing e ≡ false → applied s e ≡ refused JournalFull
+  no_record : file_fits (length s.file) (spliced e.what (content s)) ≡ true → record_fits (length s.journal) s.standing e ≡ false → applied s e ≡ Err JournalFull
   unfolding applied
   no_record f g = rw (f, g)
 
   made : file_fits (length s.file) (spliced e.what (content s)) ≡ true → record_fits (length s.journal) s.standing e ≡ true
-      → applied s e ≡ given (record {
+      → applied s e ≡ Ok (record {
         file = buffer_with s.file s.size (spliced e.what (content s));
         size = length (spliced e.what (content s));
         journal = over s.journal s.standing (record_bytes (edit_record e));
@@ -107,7 +108,7 @@ module _ (s : State) (e : Authored Edit) where
   made f g = rw (f, g)
 
   -- a refusal changes nothing
-  refused-made : {f : Fault} → applied s e ≡ refused f → Made s (applied s e) (Refused f) s.file s.journal
+  refused-made : {f : Fault} → applied s e ≡ Err f → Made s (applied s e) (Refused f) s.file s.journal
   refused-made q = record { answer = rw q; file_is = rw q; journal_is = rw q }
 
   module _ (h : e.what.place + length e.what.old ≤ length (content s)) where
@@ -139,15 +140,15 @@ module _ (s : State) (e : Authored Edit) where
 
 module _ (f key text : List ℕ) {t : Target} where
   pub value-edit : {from to : ℕ} → t ≡ Value from to → from ≤ to
-      → given (record { place = from; old = part from (from + (to - from)) f; new = new_bytes key text (Value from to) }) ≡ edit_by f key text t
+      → Ok (record { place = from; old = part from (from + (to - from)) f; new = new_bytes key text (Value from to) }) ≡ edit_by f key text t
   value-edit {from} {to} q h = let k : from + (to - from) ≡ to = omega arith in rw (q, k)
 
   pub line-edit : {from to : ℕ} → t ≡ Gone from to → from ≤ to
-      → given (record { place = from; old = part from (from + (to - from)) f; new = new_bytes key text (Gone from to) }) ≡ edit_by f key text t
+      → Ok (record { place = from; old = part from (from + (to - from)) f; new = new_bytes key text (Gone from to) }) ≡ edit_by f key text t
   line-edit {from} {to} q h = let k : from + (to - from) ≡ to = omega arith in rw (q, k)
 
   pub entry-edit : {at : ℕ} {after : Bool} → t ≡ Entry at after
-      → given (record { place = at; old = part at (at + 0) f; new = new_bytes key text (Entry at after) }) ≡ edit_by f key text t
+      → Ok (record { place = at; old = part at (at + 0) f; new = new_bytes key text (Entry at after) }) ≡ edit_by f key text t
   entry-edit {at} q = let k : at + 0 - at ≡ 0 = omega arith in rw (q, k)
 
 -- ---- a request
@@ -158,8 +159,8 @@ used-free : (s : State) (u : ℕ) (author : Author) (a : Answer Edit) {r : Edite
     (applied_by (record { file = s.file; size = s.size; journal = s.journal; used = u; standing = s.standing }) author a) r file journal
     → Made s (applied_by s author a) r file journal
 unfolding applied
-used-free s u author (refused f) m = record { answer = m.answer; file_is = m.file_is; journal_is = m.journal_is }
-used-free s u author (given e) {r} {file} {journal} m = go (file_fits (length s.file) (spliced e (content s))) (record_fits (length s.journal) s.standing (by author e)) m
+used-free s u author (Err f) m = record { answer = m.answer; file_is = m.file_is; journal_is = m.journal_is }
+used-free s u author (Ok e) {r} {file} {journal} m = go (file_fits (length s.file) (spliced e (content s))) (record_fits (length s.journal) s.standing (by author e)) m
   where
     t : State
     t = record { file = s.file; size = s.size; journal = s.journal; used = u; standing = s.standing }
@@ -173,51 +174,51 @@ used-free s u author (given e) {r} {file} {journal} m = go (file_fits (length s.
       standing = s.standing + edit_length (by author e);
     }
 
-    go : (x y : Bool) → Made t (need x NoRoom >>= λ _. (need y JournalFull >>= λ _. given done)) r file journal
-        → Made s (need x NoRoom >>= λ _. (need y JournalFull >>= λ _. given done)) r file journal
+    go : (x y : Bool) → Made t (need x NoRoom >>= λ _. (need y JournalFull >>= λ _. Ok done)) r file journal
+        → Made s (need x NoRoom >>= λ _. (need y JournalFull >>= λ _. Ok done)) r file journal
     go true true m = record { answer = m.answer; file_is = m.file_is; journal_is = m.journal_is }
     go true false m = record { answer = m.answer; file_is = m.file_is; journal_is = m.journal_is }
     go false y m = record { answer = m.answer; file_is = m.file_is; journal_is = m.journal_is }
 
 module _ (s : State) (q : Authored Request) where
   -- not opened: the same refusal, and nothing changes
-  pub not_opened : {f : Fault} → refused f ≡ passed (opened s) → Made s (request s q) (Refused f) s.file s.journal
+  pub not_opened : {f : Fault} → Err f ≡ passed (opened s) → Made s (request s q) (Refused f) s.file s.journal
   unfolding request
   not_opened {f} e = go (opened s) e
     where
-      go : (o : Answer Journal) → refused f ≡ passed o → Made s (o >>= λ _. applied_by s q.author (edit_of (content s) q.what)) (Refused f) s.file s.journal
-      go (given j) h = no (cc)
-      go (refused g) h = let w : f ≡ g = cc in rw w (record { answer = refl; file_is = refl; journal_is = refl })
+      go : (o : Answer Journal) → Err f ≡ passed o → Made s (o >>= λ _. applied_by s q.author (edit_of (content s) q.what)) (Refused f) s.file s.journal
+      go (Ok j) h = no (cc)
+      go (Err g) h = let w : f ≡ g = cc in rw w (record { answer = refl; file_is = refl; journal_is = refl })
 
   -- opened: the request is the edit's
-  pub was-opened : given tt ≡ passed (opened s) → {r : Edited} {file journal : List ℕ}
+  pub was-opened : Ok tt ≡ passed (opened s) → {r : Edited} {file journal : List ℕ}
       → Made (lent s.file s.size s.journal 0 s.standing) (applied_by (lent s.file s.size s.journal 0 s.standing) q.author (edit_of (content s) q.what)) r file journal
       → Made s (request s q) r file journal
   unfolding request
   was-opened e {r} {file} {journal} m = go (opened s) e
     where
-      go : (o : Answer Journal) → given tt ≡ passed o → Made s (o >>= λ _. applied_by s q.author (edit_of (content s) q.what)) r file journal
-      go (given j) h = used-free s 0 q.author (edit_of (content s) q.what) m
-      go (refused g) h = no (cc)
+      go : (o : Answer Journal) → Ok tt ≡ passed o → Made s (o >>= λ _. applied_by s q.author (edit_of (content s) q.what)) r file journal
+      go (Ok j) h = used-free s 0 q.author (edit_of (content s) q.what) m
+      go (Err g) h = no (cc)
 
 -- ---- what a call that was made says of its answer
 
 module _ {s : State} {a : Answer State} {file journal : List ℕ} where
-  pub made-done : {size used standing : ℕ} → Made s a (Done size used standing) file journal → a ≡ given (lent file size journal used standing)
+  pub made-done : {size used standing : ℕ} → Made s a (Done size used standing) file journal → a ≡ Ok (lent file size journal used standing)
   made-done {size} {used} {standing} m = go a m.answer m.file_is m.journal_is
     where
-      go : (a : Answer State) → given (record { size = size; used = used; standing = standing }) ≡ then numbers_of a → file ≡ (at_exit s a).file → journal ≡ (at_exit s a).journal
-          → a ≡ given (lent file size journal used standing)
-      go (refused f) h f-is j-is = no (cc)
-      go (given t) h f-is j-is =
+      go : (a : Answer State) → Ok (record { size = size; used = used; standing = standing }) ≡ then numbers_of a → file ≡ (at_exit s a).file → journal ≡ (at_exit s a).journal
+          → a ≡ Ok (lent file size journal used standing)
+      go (Err f) h f-is j-is = no (cc)
+      go (Ok t) h f-is j-is =
           let x : Numbers = record { size = t.size; used = t.used; standing = t.standing } in
           let y : Numbers = record { size = size; used = used; standing = standing } in
           let n : x ≡ y = cc in
-          λ i. given (record { file = sym f-is i; size = (n i).size; journal = sym j-is i; used = (n i).used; standing = (n i).standing })
+          λ i. Ok (record { file = sym f-is i; size = (n i).size; journal = sym j-is i; used = (n i).used; standing = (n i).standing })
 
-  pub made-refused : {f : Fault} → Made s a (Refused f) file journal → (a ≡ refused f) × (file ≡ s.file) × (journal ≡ s.journal)
+  pub made-refused : {f : Fault} → Made s a (Refused f) file journal → (a ≡ Err f) × (file ≡ s.file) × (journal ≡ s.journal)
   made-refused {f} m = go a m.answer m.file_is m.journal_is
     where
-      go : (a : Answer State) → refused f ≡ then numbers_of a → file ≡ (at_exit s a).file → journal ≡ (at_exit s a).journal → (a ≡ refused f) × (file ≡ s.file) × (journal ≡ s.journal)
-      go (given t) h f-is j-is = no (cc)
-      go (refused g) h f-is j-is = (ap refused (cc), f-is, j-is)
+      go : (a : Answer State) → Err f ≡ then numbers_of a → file ≡ (at_exit s a).file → journal ≡ (at_exit s a).journal → (a ≡ Err f) × (file ≡ s.file) × (journal ≡ s.journal)
+      go (Ok t) h f-is j-is = no (cc)
+      go (Err g) h f-is j-is = (ap Err (cc), f-is, j-is)

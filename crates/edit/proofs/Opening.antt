@@ -1,8 +1,8 @@
 -- What the three numbers say of what is lent. Assumes nothing.
+use Rattle.std.specs.Prelude.{Option, Some, None, Ok, Err}
 use mathlib.Core.Path.{◌≡◌, refl, sym}
 use Prim.Native.Nat.{◌≤◌, ◌<◌}
 use mathlib.Core.Bool.{true, false, ◌&&◌, false≢true}
-use mathlib.Core.Option.{Option, none, some}
 use native.Mathlib.Omega.{arith}
 use lib.ListN.{length, take}
 use lib.Dec.{leb}
@@ -12,7 +12,7 @@ use Rattle.base.specs.Choice.{there}
 use Rattle.base.proofs.Tests.{no, and_both}
 use Rattle.fault.specs.declared.Fault.{Fault}
 use Rattle.fault.specs.declared.Fault.TheVariants.{Damaged}
-use Rattle.fault.specs.Answer.{Answer, given, refused, ◌>>=◌, some_or}
+use Rattle.fault.specs.Answer.{Answer, ◌>>=◌, some_or}
 use Rattle.fault.proofs.Answers.{need-given}
 use Rattle.rows.specs.Title.{desktop_entry}
 use Rattle.wellformed.specs.Check.{check}
@@ -24,12 +24,12 @@ use Rattle.edit.specs.Calls.{State, content, journal_of, lengths_fit, opened, fi
 use Rattle.edit.specs.Step.{passed, Ready}
 
 module _ (s : State) where
-  pub size-over : length s.file < s.size → refused Damaged ≡ file_checked s
+  pub size-over : length s.file < s.size → Err Damaged ≡ file_checked s
   unfolding file_checked lengths_fit
   size-over h = rw (lt-leb s.size (length s.file) h)
 
   module _ (a : s.size ≤ length s.file) where
-    pub numbers-over : numbers_fit (journal_of s) ≡ false → refused Damaged ≡ file_checked s
+    pub numbers-over : numbers_fit (journal_of s) ≡ false → Err Damaged ≡ file_checked s
     unfolding file_checked lengths_fit
     numbers-over h = rw (le-leb s.size (length s.file) a, h)
 
@@ -44,7 +44,7 @@ pub record Fits (s : State) : Type 0 where
   pub numbers : Bounds (journal_of s)
   pub ready : Ready s.file s.size s.standing
 
-pub ready-fits : (s : State) → given tt ≡ file_checked s → Fits s
+pub ready-fits : (s : State) → Ok tt ≡ file_checked s → Fits s
 unfolding file_checked lengths_fit
 ready-fits s e =
     let b = need-given (leb s.size (length s.file) && numbers_fit (journal_of s)) Damaged (λ _. check (content s)) tt (sym e) in
@@ -63,35 +63,35 @@ ready-fits s e =
     }
 
 module _ (s : State) where
-  pub opened-refused : {f : Fault} → refused f ≡ file_checked s → refused f ≡ passed (opened s)
+  pub opened-refused : {f : Fault} → Err f ≡ file_checked s → Err f ≡ passed (opened s)
   unfolding opened
   opened-refused e = rw (← e)
 
-  journal-there : (o : Option Journal) → there o ≡ true → given tt ≡ passed (some_or o Damaged)
-  journal-there (some j) e = refl
-  journal-there none e = absurd (false≢true e)
+  journal-there : (o : Option Journal) → there o ≡ true → Ok tt ≡ passed (some_or o Damaged)
+  journal-there (Some j) e = refl
+  journal-there None e = absurd (false≢true e)
 
-  journal-none : (o : Option Journal) → there o ≡ false → refused Damaged ≡ passed (some_or o Damaged)
-  journal-none (some j) e = absurd (false≢true (sym e))
-  journal-none none e = refl
+  journal-none : (o : Option Journal) → there o ≡ false → Err Damaged ≡ passed (some_or o Damaged)
+  journal-none (Some j) e = absurd (false≢true (sym e))
+  journal-none None e = refl
 
-  module _ (e : given tt ≡ file_checked s) where
-    pub opened-sound : there (read_journal (take s.used s.journal) s.standing) ≡ true → given tt ≡ passed (opened s)
+  module _ (e : Ok tt ≡ file_checked s) where
+    pub opened-sound : there (read_journal (take s.used s.journal) s.standing) ≡ true → Ok tt ≡ passed (opened s)
     unfolding opened
     opened-sound q = rw (← e) (journal-there (read_journal (take s.used s.journal) s.standing) q)
 
-    pub opened-damaged : there (read_journal (take s.used s.journal) s.standing) ≡ false → refused Damaged ≡ passed (opened s)
+    pub opened-damaged : there (read_journal (take s.used s.journal) s.standing) ≡ false → Err Damaged ≡ passed (opened s)
     unfolding opened
     opened-damaged q = rw (← e) (journal-none (read_journal (take s.used s.journal) s.standing) q)
 
   -- what was opened was ready
-  pub opened-ready : given tt ≡ passed (opened s) → given tt ≡ file_checked s
+  pub opened-ready : Ok tt ≡ passed (opened s) → Ok tt ≡ file_checked s
   unfolding opened
   opened-ready q = go (file_checked s) (sym q)
     where
-      go : (a : Answer (Unit {0})) → passed (a >>= λ _. journal_in (journal_of s)) ≡ given tt → given tt ≡ a
-      go (given tt) h = refl
-      go (refused f) h = no (cc)
+      go : (a : Answer (Unit {0})) → passed (a >>= λ _. journal_in (journal_of s)) ≡ Ok tt → Ok tt ≡ a
+      go (Ok tt) h = refl
+      go (Err f) h = no (cc)
 
-pub opened-fits : (s : State) → given tt ≡ passed (opened s) → Fits s
+pub opened-fits : (s : State) → Ok tt ≡ passed (opened s) → Fits s
 opened-fits s e = ready-fits s (opened-ready s e)

@@ -1,4 +1,5 @@
 -- An edit from the journal: what its result is, step by step. Assumes nothing.
+use Rattle.std.specs.Prelude.{Ok, Err}
 use mathlib.Core.Path.{◌≡◌, refl, sym, ap, ◌∙◌}
 use mathlib.Core.Bool.{true, false}
 use mathlib.Core.List.{List}
@@ -12,7 +13,7 @@ use Rattle.base.specs.Over.{over}
 use Rattle.base.proofs.Tests.{no, and_both}
 use Rattle.fault.specs.declared.Fault.{Fault}
 use Rattle.fault.specs.declared.Fault.TheVariants.{Damaged, NoRoom}
-use Rattle.fault.specs.Answer.{Answer, given, refused, ◌>>=◌, need, then, accepted}
+use Rattle.fault.specs.Answer.{Answer, ◌>>=◌, need, then, accepted}
 use Rattle.fault.proofs.Answers.{need-given}
 use Rattle.rows.specs.Title.{desktop_entry}
 use Rattle.wellformed.specs.Check.{check}
@@ -47,7 +48,7 @@ abbrev pub length_after : List ℕ → Edit → ℕ
 length_after file e = length file - length e.old + length e.new
 
 module _ (room : ℕ) (file : List ℕ) (e : Edit) where
-  pub not_there : stands_at e.place e.old file ≡ false → refused Damaged ≡ then length (replayed_in room file e)
+  pub not_there : stands_at e.place e.old file ≡ false → Err Damaged ≡ then length (replayed_in room file e)
   unfolding replayed_in stands
   not_there h = rw h
 
@@ -56,12 +57,12 @@ module _ (room : ℕ) (file : List ℕ) (e : Edit) where
     unfolding spliced
     spliced-length = replaced-length e.place (length e.old) e.new file (stands-inside e.place e.old file h)
 
-    pub over-room : room < length_after file e → refused NoRoom ≡ then length (replayed_in room file e)
+    pub over-room : room < length_after file e → Err NoRoom ≡ then length (replayed_in room file e)
     unfolding replayed_in stands
     over-room k = let l = spliced-length in rw (h, lt-leb (length (spliced e file)) room (omega arith))
 
     module _ (m : length_after file e ≤ room) where
-      pub over-most : 32768 < length_after file e → refused NoRoom ≡ then length (replayed_in room file e)
+      pub over-most : 32768 < length_after file e → Err NoRoom ≡ then length (replayed_in room file e)
       unfolding replayed_in stands
       over-most k =
           let l = spliced-length in
@@ -71,11 +72,11 @@ module _ (room : ℕ) (file : List ℕ) (e : Edit) where
         fits : file_fits room (spliced e file) ≡ true
         fits = let l = spliced-length in rw (le-leb (length (spliced e file)) room (omega arith), le-leb (length (spliced e file)) 32768 (omega arith))
 
-        pub ill-formed : false ≡ well_formed (replaced e.place (length e.old) e.new file) → refused Damaged ≡ then length (replayed_in room file e)
+        pub ill-formed : false ≡ well_formed (replaced e.place (length e.old) e.new file) → Err Damaged ≡ then length (replayed_in room file e)
         unfolding replayed_in stands spliced
         ill-formed w = rw (h, fits, ← w)
 
-        pub made : true ≡ well_formed (replaced e.place (length e.old) e.new file) → given (length_after file e) ≡ then length (replayed_in room file e)
+        pub made : true ≡ well_formed (replaced e.place (length e.old) e.new file) → Ok (length_after file e) ≡ then length (replayed_in room file e)
         unfolding replayed_in stands spliced
         made w = rw (h, fits, ← w, ← spliced-length)
 
@@ -85,21 +86,21 @@ module _ (room : ℕ) (file : List ℕ) (e : Edit) where
 pub record Makes (room : ℕ) (file : List ℕ) (e : Edit) : Type 0 where
   pub inside : e.place + length e.old ≤ length file
   pub room_for : length_after file e ≤ room
-  pub is : replayed_in room file e ≡ given (replaced e.place (length e.old) e.new file)
+  pub is : replayed_in room file e ≡ Ok (replaced e.place (length e.old) e.new file)
 
-then-given : {A B : Type 0} (h : A → B) (x : Answer A) (b : B) → given b ≡ then h x → (a : A) × (x ≡ given a)
-then-given h (given a) b e = (a, refl)
-then-given h (refused f) b e = no (cc)
+then-given : {A B : Type 0} (h : A → B) (x : Answer A) (b : B) → Ok b ≡ then h x → (a : A) × (x ≡ Ok a)
+then-given h (Ok a) b e = (a, refl)
+then-given h (Err f) b e = no (cc)
 
-pub makes : (room : ℕ) (file : List ℕ) (e : Edit) (n : ℕ) → given n ≡ then length (replayed_in room file e) → Makes room file e
+pub makes : (room : ℕ) (file : List ℕ) (e : Edit) (n : ℕ) → Ok n ≡ then length (replayed_in room file e) → Makes room file e
 unfolding replayed_in stands spliced
 makes room file e n h =
     let f : List ℕ = spliced e file in
-    let last : Answer (List ℕ) = need (well_formed f) Damaged >>= λ _. given f in
+    let last : Answer (List ℕ) = need (well_formed f) Damaged >>= λ _. Ok f in
     let g = then-given length (replayed_in room file e) n h in
     let a = need-given (stands e file) Damaged (λ _. need (file_fits room f) NoRoom >>= λ _. last) g.0 g.1 in
     let b = need-given (file_fits room f) NoRoom (λ _. last) g.0 a.1 in
-    let d = need-given (well_formed f) Damaged (λ _. given f) g.0 b.1 in
+    let d = need-given (well_formed f) Damaged (λ _. Ok f) g.0 b.1 in
     let r = leb-true (length f) room (and_both (leb (length f) room) (leb (length f) 32768) b.0).0 in
     record {
       inside = stands-inside e.place e.old file a.0;
@@ -109,10 +110,10 @@ makes room file e n h =
 
 -- a refusal leaves the buffer
 pub unmade : (buffer : List ℕ) (size room : ℕ) (file : List ℕ) (e : Edit) {f : Fault}
-    → refused f ≡ then length (replayed_in room file e)
+    → Err f ≡ then length (replayed_in room file e)
     → buffer ≡ became buffer size (replayed_in room file e)
 unmade buffer size room file e {f} = go (replayed_in room file e)
   where
-    go : (a : Answer (List ℕ)) → refused f ≡ then length a → buffer ≡ became buffer size a
-    go (given g) h = no (cc)
-    go (refused g) h = refl
+    go : (a : Answer (List ℕ)) → Err f ≡ then length a → buffer ≡ became buffer size a
+    go (Ok g) h = no (cc)
+    go (Err g) h = refl

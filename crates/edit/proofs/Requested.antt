@@ -1,4 +1,5 @@
 -- What an accepted set or remove says, and that what it leaves is opened again. Assumes nothing.
+use Rattle.std.specs.Prelude.{Ok}
 use mathlib.Core.Path.{◌≡◌, sym, ap, ◌∙◌}
 use Prim.Native.Nat.{ℕ, ◌+◌, ◌≤◌, ◌<◌}
 use native.Mathlib.Omega.{arith}
@@ -13,7 +14,7 @@ use Rattle.base.specs.Over.{over}
 use Rattle.base.proofs.Over.{take-over, length_over}
 use Rattle.base.proofs.Tests.{and_both}
 use Rattle.fault.specs.declared.Fault.TheVariants.{NoRoom, JournalFull, Damaged}
-use Rattle.fault.specs.Answer.{Answer, given, ◌>>=◌, need, accepted}
+use Rattle.fault.specs.Answer.{Answer, ◌>>=◌, need, accepted}
 use Rattle.fault.proofs.Answers.{need-given, bind-given, given_is}
 use Rattle.record.specs.Record.{record_bytes}
 use Rattle.rows.specs.Title.{desktop_entry}
@@ -69,31 +70,31 @@ requested-used s f e h =
 -- the file was well formed, the edit is the request's, there was room for both, and what is left is what the request makes
 pub record Done (s t : State) (q : Authored Request) : Type 0 where
   pub edit : Edit
-  pub edits : edit_of (content s) q.what ≡ given edit
+  pub edits : edit_of (content s) q.what ≡ Ok edit
   pub well : well_formed (content s) ≡ true
   pub file-fits : file_fits (length s.file) (spliced edit (content s)) ≡ true
   pub record-fits : record_fits (length s.journal) s.standing (by q.author edit) ≡ true
   pub is : requested s (content s) (by q.author edit) ≡ t
 
-pub opened-well : (s : State) (j : Journal) → opened s ≡ given j → well_formed (content s) ≡ true
+pub opened-well : (s : State) (j : Journal) → opened s ≡ Ok j → well_formed (content s) ≡ true
 unfolding opened file_checked CheckAccepts
 opened-well s j e =
     let a = bind-given (file_checked s) (λ _. journal_in (journal_of s)) j e in
     let b = need-given (lengths_fit s) Damaged (λ _. check (content s)) a.0 a.1 in
     sym (check-accepts desktop_entry (content s)) ∙ ap accepted b.1
 
-pub done : (s t : State) (q : Authored Request) → request s q ≡ given t → Done s t q
+pub done : (s t : State) (q : Authored Request) → request s q ≡ Ok t → Done s t q
 unfolding request applied
 done s t q h =
     let f : List ℕ = content s in
     let made : Edit → Authored Edit = λ e. by q.author e in
-    let last : Edit → Answer State = λ e. need (record_fits (length s.journal) s.standing (made e)) JournalFull >>= λ _. given (requested s f (made e)) in
+    let last : Edit → Answer State = λ e. need (record_fits (length s.journal) s.standing (made e)) JournalFull >>= λ _. Ok (requested s f (made e)) in
     let rest : Edit → Answer State = λ e. need (file_fits (length s.file) (spliced e f)) NoRoom >>= λ _. last e in
     let a = bind-given (opened s) (λ _. edit_of f q.what >>= rest) t h in
     let b = bind-given (edit_of f q.what) rest t a.2 in
     let e : Edit = b.0 in
     let c = need-given (file_fits (length s.file) (spliced e f)) NoRoom (λ _. last e) t b.2 in
-    let d = need-given (record_fits (length s.journal) s.standing (made e)) JournalFull (λ _. given (requested s f (made e))) t c.1 in
+    let d = need-given (record_fits (length s.journal) s.standing (made e)) JournalFull (λ _. Ok (requested s f (made e))) t c.1 in
     record {
       edit = e;
       edits = b.1;
@@ -116,9 +117,9 @@ most {s} d = fits-most (length s.file) (spliced d.edit (content s)) d.file-fits
 pub record Both (s : State) (j : Journal) : Type 0 where
   pub size_fits : s.size ≤ length s.file
   pub well : well_formed (content s) ≡ true
-  pub journal-opened : alone.opened (journal_of s) ≡ given j
+  pub journal-opened : alone.opened (journal_of s) ≡ Ok j
 
-pub opened_both : (s : State) (j : Journal) → opened s ≡ given j → Both s j
+pub opened_both : (s : State) (j : Journal) → opened s ≡ Ok j → Both s j
 unfolding opened file_checked lengths_fit alone.opened
 opened_both s j h =
     let a = bind-given (file_checked s) (λ _. alone.journal_in (journal_of s)) j h in
@@ -126,15 +127,15 @@ opened_both s j h =
     let l = and_both (leb s.size (length s.file)) (numbers_fit (journal_of s)) b.0 in
     record { size_fits = leb-true _ _ l.0; well = opened-well s j h; journal-opened = rw l.1 a.2 }
 
-both-opened : (s : State) (j : Journal) → Both s j → opened s ≡ given j
+both-opened : (s : State) (j : Journal) → Both s j → opened s ≡ Ok j
 unfolding opened file_checked lengths_fit alone.opened
 both-opened s j w =
     let a = need-given (numbers_fit (journal_of s)) Damaged (λ _. alone.journal_in (journal_of s)) j w.journal-opened in
     rw (le-leb s.size (length s.file) w.size_fits, a.0, checks (content s) w.well) a.1
 
 -- an accepted set or remove stands, by its author, behind those that stood, and none waits
-pub request-stands : (s t : State) (q : Authored Request) (j : Journal) → person_of q.author < 65536 → opened s ≡ given j → request s q ≡ given t
-    → (e : Edit) × (opened t ≡ given (record { stand = by q.author e ∷ j.stand; wait = [] }))
+pub request-stands : (s t : State) (q : Authored Request) (j : Journal) → person_of q.author < 65536 → opened s ≡ Ok j → request s q ≡ Ok t
+    → (e : Edit) × (opened t ≡ Ok (record { stand = by q.author e ∷ j.stand; wait = [] }))
 request-stands s t q j p h e =
     let d = done s t q e in
     let f : List ℕ = content s in

@@ -1,13 +1,13 @@
 -- Undo and redo by their steps: what is lent is in order, the journal names an edit, and the edit is made. Assumes nothing.
+use Rattle.std.specs.Prelude.{Option, Some, None, Ok, Err}
 use mathlib.Core.Path.{◌≡◌, refl, sym, ◌∙◌}
-use mathlib.Core.Option.{Option, none, some}
 use mathlib.Core.List.{List}
 use Prim.Native.Nat.{ℕ, ◌+◌, ◌-◌}
 use lib.ListN.{length, take}
 use Rattle.base.proofs.Tests.{no}
 use Rattle.fault.specs.declared.Fault.{Fault}
 use Rattle.fault.specs.declared.Fault.TheVariants.{NothingLeft}
-use Rattle.fault.specs.Answer.{Answer, given, refused, ◌>>=◌, some_or, then, at_exit}
+use Rattle.fault.specs.Answer.{Answer, ◌>>=◌, some_or, then, at_exit}
 use Rattle.splice.specs.Edit.{Edit, turned}
 use Rattle.journal.specs.Journal.{Authored, Journal, edit_length, next_of}
 use Rattle.journal.specs.Lent.{journal_in}
@@ -22,21 +22,21 @@ use Rattle.edit.specs.declared.Edited.TheVariants as edited
 -- ---- the edit is made, with numbers
 
 module _ (room : ℕ) (file : List ℕ) (e : Edit) (used standing : ℕ) where
-  pub refused-too : {f : Fault} → refused f ≡ then length (replayed_in room file e) → refused f ≡ then (numbers used standing) (replayed_in room file e)
+  pub refused-too : {f : Fault} → Err f ≡ then length (replayed_in room file e) → Err f ≡ then (numbers used standing) (replayed_in room file e)
   refused-too {f} = go (replayed_in room file e)
     where
-      go : (a : Answer (List ℕ)) → refused f ≡ then length a → refused f ≡ then (numbers used standing) a
-      go (given g) h = no (cc)
-      go (refused g) h = cc
+      go : (a : Answer (List ℕ)) → Err f ≡ then length a → Err f ≡ then (numbers used standing) a
+      go (Ok g) h = no (cc)
+      go (Err g) h = cc
 
   pub numbers-too : {n : ℕ}
-      → given n ≡ then length (replayed_in room file e)
-      → given (record { size = n; used = used; standing = standing }) ≡ then (numbers used standing) (replayed_in room file e)
+      → Ok n ≡ then length (replayed_in room file e)
+      → Ok (record { size = n; used = used; standing = standing }) ≡ then (numbers used standing) (replayed_in room file e)
   numbers-too {n} = go (replayed_in room file e)
     where
-      go : (a : Answer (List ℕ)) → given n ≡ then length a → given (record { size = n; used = used; standing = standing }) ≡ then (numbers used standing) a
-      go (given g) h = let z : n ≡ length g = cc in rw z
-      go (refused g) h = no (cc)
+      go : (a : Answer (List ℕ)) → Ok n ≡ then length a → Ok (record { size = n; used = used; standing = standing }) ≡ then (numbers used standing) a
+      go (Ok g) h = let z : n ≡ length g = cc in rw z
+      go (Err g) h = no (cc)
 
 module _ (s : State) (e : Edit) (standing : ℕ) where
   pub replayed-numbers : then numbers_of (replayed s e standing) ≡ then (numbers s.used standing) (replayed_in (length s.file) (content s) e)
@@ -44,16 +44,16 @@ module _ (s : State) (e : Edit) (standing : ℕ) where
   replayed-numbers = go (replayed_in (length s.file) (content s) e)
     where
       go : (a : Answer (List ℕ)) → then numbers_of (then (with_file s standing) a) ≡ then (numbers s.used standing) a
-      go (given f) = refl
-      go (refused f) = refl
+      go (Ok f) = refl
+      go (Err f) = refl
 
   pub replayed-file : (at_exit s (replayed s e standing)).file ≡ became s.file s.size (replayed_in (length s.file) (content s) e)
   unfolding replayed
   replayed-file = go (replayed_in (length s.file) (content s) e)
     where
       go : (a : Answer (List ℕ)) → (at_exit s (then (with_file s standing) a)).file ≡ became s.file s.size a
-      go (given f) = refl
-      go (refused f) = refl
+      go (Ok f) = refl
+      go (Err f) = refl
 
   -- the journal stays as it is
   replayed-journal : (at_exit s (replayed s e standing)).journal ≡ s.journal
@@ -61,17 +61,17 @@ module _ (s : State) (e : Edit) (standing : ℕ) where
   replayed-journal = go (replayed_in (length s.file) (content s) e)
     where
       go : (a : Answer (List ℕ)) → (at_exit s (then (with_file s standing) a)).journal ≡ s.journal
-      go (given f) = refl
-      go (refused f) = refl
+      go (Ok f) = refl
+      go (Err f) = refl
 
 turned-journal : (s : State) (a : Answer Journal) (pick : Journal → Option (Authored Edit)) (turn : Edit → Edit) (n : Authored Edit → ℕ)
     → (at_exit s (a >>= λ j. (some_or (pick j) NothingLeft >>= λ e. replayed s (turn e.what) (n e)))).journal ≡ s.journal
-turned-journal s (refused f) pick turn n = refl
-turned-journal s (given j) pick turn n = go (pick j)
+turned-journal s (Err f) pick turn n = refl
+turned-journal s (Ok j) pick turn n = go (pick j)
   where
     go : (o : Option (Authored Edit)) → (at_exit s (some_or o NothingLeft >>= λ e. replayed s (turn e.what) (n e))).journal ≡ s.journal
-    go none = refl
-    go (some e) = replayed-journal s (turn e.what) (n e)
+    go None = refl
+    go (Some e) = replayed-journal s (turn e.what) (n e)
 
 -- ---- a call by its steps
 
@@ -90,15 +90,15 @@ unfolding opened
 asked-steps s which place make = by_all (file_checked s) (journal_in (journal_of s))
   where
     by_next : (o : Option (Authored Edit)) → (some_or o NothingLeft >>= λ e. make (place e)) ≡ (then place (some_or o NothingLeft) >>= make)
-    by_next none = refl
-    by_next (some e) = refl
+    by_next None = refl
+    by_next (Some e) = refl
 
     by_all : (a : Answer (Unit {0})) (o : Answer Journal)
         → ((a >>= λ _. o) >>= λ j. some_or (next_of (which j)) NothingLeft >>= λ e. make (place e))
         ≡ (a >>= λ _. (o >>= λ j. then place (some_or (next_of (which j)) NothingLeft)) >>= make)
-    by_all (given tt) (given j) = by_next (next_of (which j))
-    by_all (given tt) (refused f) = refl
-    by_all (refused f) o = refl
+    by_all (Ok tt) (Ok j) = by_next (next_of (which j))
+    by_all (Ok tt) (Err f) = refl
+    by_all (Err f) o = refl
 
 -- an undo turns the edit round and stands where its record starts; a redo makes it and stands where it ends
 abbrev pub turn_on : Way → Edit → Edit
@@ -122,17 +122,17 @@ way-steps Redo s = record {
 
 -- what the call answers and leaves
 module _ {s : State} {from : Answer Placed} {turn : Edit → Edit} {number : Placed → ℕ} {call : Answer State} (w : Steps s from turn number call) where
-  refused-so : {f : Fault} → call ≡ refused f → Made s call (edited.Refused f) s.file s.journal
+  refused-so : {f : Fault} → call ≡ Err f → Made s call (edited.Refused f) s.file s.journal
   refused-so e = record { answer = rw e; file_is = rw e; journal_is = w.keeps }
 
-  pub made-unready : {f : Fault} → refused f ≡ file_checked s → Made s call (edited.Refused f) s.file s.journal
+  pub made-unready : {f : Fault} → Err f ≡ file_checked s → Made s call (edited.Refused f) s.file s.journal
   made-unready e = refused-so (w.is ∙ rw (← e))
 
-  module _ (r : given tt ≡ file_checked s) where
-    pub made-unread : {f : Fault} → refused f ≡ from → Made s call (edited.Refused f) s.file s.journal
+  module _ (r : Ok tt ≡ file_checked s) where
+    pub made-unread : {f : Fault} → Err f ≡ from → Made s call (edited.Refused f) s.file s.journal
     made-unread g = refused-so (w.is ∙ rw (← r, ← g))
 
-    pub made_again : {p : Placed} {x : Edited} {file : List ℕ} → given p ≡ from
+    pub made_again : {p : Placed} {x : Edited} {file : List ℕ} → Ok p ≡ from
         → answered x ≡ then (numbers s.used (number p)) (replayed_in (length s.file) (content s) (turn p.edit))
         → file ≡ became s.file s.size (replayed_in (length s.file) (content s) (turn p.edit))
         → Made s call x file s.journal

@@ -1,9 +1,9 @@
 -- Set, remove, undo and redo on two lent buffers and three numbers (01, "Edits and the journal"; 02, A9). Assumes nothing.
-use Rattle.std.specs.Prelude.{◌≡◌, ℕ, ◌+◌, ◌-◌, Bool, ◌&&◌, List, length, take, leb}
+use Rattle.std.specs.Prelude.{◌≡◌, ℕ, ◌+◌, ◌-◌, Bool, ◌&&◌, List, length, take, leb, Ok, Err}
 use Rattle.base.specs.Bounds.{file_most, journal_most}
 use Rattle.base.specs.Over.{over}
 use Rattle.fault.specs.declared.Fault.TheVariants.{Damaged, NoRoom, NothingLeft, JournalFull}
-use Rattle.fault.specs.Answer.{Answer, given, refused, ◌>>=◌, need, some_or, then, at_exit}
+use Rattle.fault.specs.Answer.{Answer, ◌>>=◌, need, some_or, then, at_exit}
 use Rattle.record.specs.Record.{record_bytes}
 use Rattle.wellformed.specs.Check.{check}
 use Rattle.wellformed.specs.WellFormed.{well_formed}
@@ -66,7 +66,7 @@ applied s e = do
   _ ← need (file_fits (length s.file) file) NoRoom
   _ ← need (record_fits (length s.journal) s.standing e) JournalFull
   let end = s.standing + edit_length e
-  given (record {
+  Ok (record {
     file = buffer_with s.file s.size file;
     size = length file;
     journal = over s.journal s.standing (record_bytes (edit_record e));
@@ -92,7 +92,7 @@ replayed_in room file e = do
   _ ← need (stands e file) Damaged
   _ ← need (file_fits room (spliced e file)) NoRoom
   _ ← need (well_formed (spliced e file)) Damaged
-  given (spliced e file)
+  Ok (spliced e file)
 
 -- the lent things with that file and another standing number
 abbrev pub with_file : State → ℕ → List ℕ → State
@@ -130,8 +130,8 @@ numbers_of s = record { size = s.size; used = s.used; standing = s.standing }
 
 -- what an answer says
 abbrev pub answered : Edited → Answer Numbers
-answered (edited.Done size used standing) = given (record { size = size; used = used; standing = standing })
-answered (edited.Refused f) = refused f
+answered (edited.Done size used standing) = Ok (record { size = size; used = used; standing = standing })
+answered (edited.Refused f) = Err f
 
 -- a call that answers so and leaves these bytes in both buffers
 pub record Made (s : State) (a : Answer State) (r : Edited) (file journal : List ℕ) : Type 0 where

@@ -1,7 +1,7 @@
 -- What the functions of this crate answer, by the definitions of the four calls. Assumes nothing.
-use Rattle.std.specs.Prelude.{◌≡◌, ℕ, ◌≤◌, true, List, length, take}
+use Rattle.std.specs.Prelude.{◌≡◌, ℕ, ◌≤◌, true, List, length, take, Ok, Err}
 use Rattle.base.specs.Bounds.{file_most, journal_most}
-use Rattle.fault.specs.Answer.{Answer, given, refused, ◌>>=◌}
+use Rattle.fault.specs.Answer.{Answer, ◌>>=◌}
 use Rattle.rows.specs.Find.{none_bad}
 use Rattle.splice.specs.Edit.{Edit, buffer_with}
 use Rattle.journal.specs.Journal.{Author, by}
@@ -13,8 +13,8 @@ use Rattle.edit.specs.declared.Replayed.TheVariants as replay
 
 -- an answer without its value
 abbrev pub passed : {A : Type 0} → Answer A → Answer (Unit {0})
-passed (given a) = given tt
-passed (refused f) = refused f
+passed (Ok a) = Ok tt
+passed (Err f) = Err f
 
 -- what a set or remove needs of a file and a journal that were opened: the file lies in its buffer, is not too long and has no bad line, and what
 -- stands is not too long
@@ -30,8 +30,8 @@ swap place gone come = record { place = place; old = gone; new = come }
 
 -- the length of the file after an edit from the journal
 abbrev pub sized : Replayed → Answer ℕ
-sized (replay.Size n) = given n
-sized (replay.Refused f) = refused f
+sized (replay.Size n) = Ok n
+sized (replay.Refused f) = Err f
 
 -- the numbers that go with a file
 abbrev pub numbers : ℕ → ℕ → List ℕ → Numbers
@@ -39,8 +39,8 @@ numbers used standing file = record { size = length file; used = used; standing 
 
 -- the buffer of a file that became another, if it did
 abbrev pub became : List ℕ → ℕ → Answer (List ℕ) → List ℕ
-became buffer size (given file) = buffer_with buffer size file
-became buffer size (refused f) = buffer
+became buffer size (Ok file) = buffer_with buffer size file
+became buffer size (Err f) = buffer
 
 -- the edit of an author applied, or its refusal
 abbrev pub applied_by : State → Author → Answer Edit → Answer State

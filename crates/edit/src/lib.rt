@@ -1,11 +1,11 @@
 // Set, remove, undo and redo on two lent buffers and three numbers.
 #![tactic(auto)]
 
-ghost use Rattle.std.specs.Prelude.{◌≡◌, true, ◌+◌, ◌-◌, ◌≤◌, length, take};
+ghost use Rattle.std.specs.Prelude.{◌≡◌, true, ◌+◌, ◌-◌, ◌≤◌, length, take, Ok};
 ghost use Rattle.base.specs.Bounds.{file_most, journal_most};
 ghost use Rattle.base.specs.Lists.{part};
 ghost use Rattle.base.specs.Over.{over};
-ghost use Rattle.fault.specs.Answer.{given, then};
+ghost use Rattle.fault.specs.Answer.{then};
 ghost use Rattle.record.specs.Record.{record_bytes};
 ghost use Rattle.wellformed.specs.WellFormed.{well_formed};
 ghost use Rattle.splice.specs.Edit.{replaced, buffer_with};
@@ -102,7 +102,7 @@ fn make(
     requires { (size ≤ length file.old) × (size ≤ file_most) × (standing ≤ journal_most) × (place + old ≤ size) }
     ensures { calls.Made (calls.lent file.old size journal.old 0 standing)
         (step.applied_by (calls.lent file.old size journal.old 0 standing) (Person person)
-        (given (record { place = place; old = part place (place + old) (take size file.old); new = target.new_bytes key.now text.now t })))
+        (Ok (record { place = place; old = part place (place + old) (take size file.old); new = target.new_bytes key.now text.now t })))
         result file.new journal.new }
 {
     let n = change::new_length(key, text, t);

@@ -1,7 +1,7 @@
 -- Choice of language, by the file: the raw value of a plain key that a locale takes (01, "Language, escapes, lists"). Assumes nothing.
-use Rattle.std.specs.Prelude.{ℕ, ◌&&◌, List}
+use Rattle.std.specs.Prelude.{ℕ, ◌&&◌, List, Ok}
 use Rattle.fault.specs.declared.Fault.TheVariants.{BadArgument, Missing}
-use Rattle.fault.specs.Answer.{Answer, given, ◌>>=◌, need, some_or}
+use Rattle.fault.specs.Answer.{Answer, ◌>>=◌, need, some_or}
 use Rattle.line.specs.Form.{group_form, plain_form, locale_form}
 use Rattle.rows.specs.Rows.{Row, read_rows}
 use Rattle.wellformed.specs.Check.{check}
@@ -12,7 +12,7 @@ use Rattle.entry.specs.Lookup.{Extent, value_ends}
 abbrev pub chosen_ends : List Row → List ℕ → List ℕ → List ℕ → Answer Extent
 chosen_ends rs group key locale = do
   r ← some_or (chosen rs group key locale) Missing
-  given (value_ends r)
+  Ok (value_ends r)
 
 -- choice's two ends, or its refusal
 unfoldable pub choose : List ℕ → List ℕ → List ℕ → List ℕ → Answer Extent

@@ -1,8 +1,8 @@
 -- Lookup: the raw value of a key with its postfix in a group (01, "What the caller is told"). Assumes nothing.
-use Rattle.std.specs.Prelude.{ℕ, ◌+◌, ◌&&◌, List, [], length}
+use Rattle.std.specs.Prelude.{ℕ, ◌+◌, ◌&&◌, List, [], length, Ok, Err}
 use Rattle.base.specs.Lists.{part}
 use Rattle.fault.specs.declared.Fault.TheVariants.{BadArgument, Missing}
-use Rattle.fault.specs.Answer.{Answer, given, refused, ◌>>=◌, need, some_or}
+use Rattle.fault.specs.Answer.{Answer, ◌>>=◌, need, some_or}
 use Rattle.line.specs.Form.{group_form, key_form}
 use Rattle.rows.specs.Rows.{Row, line_of, read_rows, value_start}
 use Rattle.rows.specs.Title.{Key, find_row}
@@ -27,17 +27,17 @@ lookup file group key = do
   _ ← check file
   _ ← need (group_form group && key_form key) BadArgument
   r ← some_or (find_row (read_rows file) (Key group key)) Missing
-  given (value_ends r)
+  Ok (value_ends r)
 
 -- what the answer says
 abbrev pub answered : Ends → Answer Extent
-answered (ends.At from to) = given (record { from = from; to = to })
-answered (ends.Refused f) = refused f
+answered (ends.At from to) = Ok (record { from = from; to = to })
+answered (ends.Refused f) = Err f
 
 -- the part of the file between two ends; empty when refused
 abbrev pub part_of : List ℕ → Answer Extent → List ℕ
-part_of file (given e) = part e.from e.to file
-part_of file (refused f) = []
+part_of file (Ok e) = part e.from e.to file
+part_of file (Err f) = []
 
 -- the ends that finding a row tells
 abbrev pub ends_of : Found → Ends

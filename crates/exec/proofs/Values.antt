@@ -1,9 +1,9 @@
 -- The raw values that an expansion reads, and their texts. Assumes nothing.
+use Rattle.std.specs.Prelude.{Option, Some, None, Ok, Err}
 use mathlib.Core.Path.{◌≡◌, refl, sym, ◌∙◌}
 use Prim.Native.Nat.{ℕ, suc, ◌+◌, ◌≤◌}
 use native.Mathlib.Omega.{arith}
 use mathlib.Core.Bool.{Bool, true, false}
-use mathlib.Core.Option.{Option, none, some}
 use mathlib.Core.List.{List, [], ◌∷◌}
 use lib.ListN.{length, take, drop, length-append, length-drop}
 use lib.Seq.{take_at}
@@ -15,7 +15,7 @@ use Rattle.base.proofs.Lists.{length_part}
 use Rattle.base.proofs.Tests.{no}
 use Rattle.fault.specs.declared.Fault.{Fault}
 use Rattle.fault.specs.declared.Fault.TheVariants.{BadEscape, Missing}
-use Rattle.fault.specs.Answer.{Answer, given, refused, ◌>>=◌, some_or, then}
+use Rattle.fault.specs.Answer.{Answer, ◌>>=◌, some_or, then}
 use Rattle.text.proofs.OutputLaws.{Leaves}
 use Rattle.text.specs.Escape.{escape, text_from, read_text}
 use Rattle.text.specs.Output.{answered}
@@ -40,8 +40,8 @@ use Rattle.exec.specs.Step.{ReadTo}
 -- ---- a text is no longer than its raw value
 
 cons-le : (x n : ℕ) (a : Answer (List ℕ)) → length (text_of a) ≤ n → length (text_of (then (λ t. x ∷ t) a)) ≤ suc n
-cons-le x n (given t) h = omega arith
-cons-le x n (refused f) h = omega arith
+cons-le x n (Ok t) h = omega arith
+cons-le x n (Err f) h = omega arith
 
 text-le : (k : Escapes) (s : List ℕ) (t : Bool) (at : ℕ) → length (text_of (text_from k s t at)) ≤ length s
 unfolding text_from
@@ -56,9 +56,9 @@ text-le k (b ∷ s) false at = go (eqb b 92) (text-le k s true at) (text-le k s 
 text-le k (b ∷ s) true at = go (escape k b) (text-le k s false (at + 2))
   where
     go : (o : Option ℕ) → length (text_of (text_from k s false (at + 2))) ≤ length s
-        → length (text_of (maybe o (refused (BadEscape at)) (λ x. then (λ u. x ∷ u) (text_from k s false (at + 2))))) ≤ suc (length s)
-    go none h = omega arith
-    go (some x) h = cons-le x (length s) (text_from k s false (at + 2)) h
+        → length (text_of (maybe o (Err (BadEscape at)) (λ x. then (λ u. x ∷ u) (text_from k s false (at + 2))))) ≤ suc (length s)
+    go None h = omega arith
+    go (Some x) h = cons-le x (length s) (text_from k s false (at + 2)) h
 
 pub read-le : (raw : List ℕ) → length (text_of (read_text raw)) ≤ length raw
 unfolding read_text
@@ -68,27 +68,27 @@ read-le raw = text-le _ raw false 0
 
 -- where there is room, the whole text is told and held
 pub read-room : (a : Answer (List ℕ)) (s : List ℕ) {r : Written} {t : List ℕ} → length (text_of a) ≤ length s → Leaves a s (answered r) t → ReadTo a s r t
-read-room (given x) s h p = record { tells = p.answer ∙ rw (le-leb (length x) (length s) h); is = p.output ∙ rw (le-leb (length x) (length s) h); fits = h }
-read-room (refused f) s h p = record { tells = p.answer; is = p.output; fits = h }
+read-room (Ok x) s h p = record { tells = p.answer ∙ rw (le-leb (length x) (length s) h); is = p.output ∙ rw (le-leb (length x) (length s) h); fits = h }
+read-room (Err f) s h p = record { tells = p.answer; is = p.output; fits = h }
 
 -- the text is the buffer's front, as long as was told; or the refusal is the text's
-pub read-given : (a : Answer (List ℕ)) {s t : List ℕ} {n : ℕ} → ReadTo a s (written.Bytes n) t → (a ≡ given (take n t)) × (n ≤ length t)
-read-given (given x) {s} {t} {n} w =
+pub read-given : (a : Answer (List ℕ)) {s t : List ℕ} {n : ℕ} → ReadTo a s (written.Bytes n) t → (a ≡ Ok (take n t)) × (n ≤ length t)
+read-given (Ok x) {s} {t} {n} w =
     let i = w.tells in
     let l : n ≡ length x = cc in
     let d = length-drop (length x) s in
     (rw (w.is, take_at x (drop (length x) s) n (sym l)), rw (w.is, length-append x (drop (length x) s)) (omega arith))
-read-given (refused f) w = let i = w.tells in no (cc)
+read-given (Err f) w = let i = w.tells in no (cc)
 
-pub read-refuses : (a : Answer (List ℕ)) {s t : List ℕ} {f : Fault} → ReadTo a s (written.Refused f) t → a ≡ refused f
-read-refuses (given x) w = let i = w.tells in no (cc)
-read-refuses (refused g) w = let i = w.tells in cc
+pub read-refuses : (a : Answer (List ℕ)) {s t : List ℕ} {f : Fault} → ReadTo a s (written.Refused f) t → a ≡ Err f
+read-refuses (Ok x) w = let i = w.tells in no (cc)
+read-refuses (Err g) w = let i = w.tells in cc
 
 -- nothing is read, or nothing could be
-pub read_none : (s : List ℕ) → ReadTo (given []) s (written.Bytes 0) s
+pub read_none : (s : List ℕ) → ReadTo (Ok []) s (written.Bytes 0) s
 read_none s = record { tells = refl; is = refl; fits = omega arith }
 
-pub read-refused : {f : Fault} {r : Written} (s : List ℕ) → answered r ≡ refused f → ReadTo (refused f) s r s
+pub read-refused : {f : Fault} {r : Written} (s : List ℕ) → answered r ≡ Err f → ReadTo (Err f) s r s
 read-refused s e = record { tells = e; is = refl; fits = omega arith }
 
 -- ---- the value of a row that was found
@@ -98,7 +98,7 @@ part-short from to file h = omega (arith, length_part from to file h)
 
 pub record Value (o : Option Row) (file : List ℕ) (from to : ℕ) : Type 0 where
   pub row : Row
-  pub is : o ≡ some row
+  pub is : o ≡ Some row
   pub ordered : from ≤ to
   pub inside : to ≤ length file
   pub bytes : part from to file ≡ raw_value row
@@ -106,7 +106,7 @@ pub record Value (o : Option Row) (file : List ℕ) (from to : ℕ) : Type 0 whe
 pub value-short : {o : Option Row} {file : List ℕ} {from to : ℕ} → Value o file from to → length (part from to file) ≤ length file
 value-short {file = file} {from = from} {to = to} w = part-short from to file w.inside
 
-row-value : (file : List ℕ) (t : Title) (r : Row) → find_row (read_rows file) t ≡ some r → {n p e v : ℕ} → Told r n p e v → Value (find_row (read_rows file) t) file v e
+row-value : (file : List ℕ) (t : Title) (r : Row) → find_row (read_rows file) t ≡ Some r → {n p e v : ℕ} → Told r n p e v → Value (find_row (read_rows file) t) file v e
 unfolding ends.value_ends
 row-value file t r i w =
     let b = row_inside file t r i in
@@ -125,7 +125,7 @@ key-value file t {n} {p} {e} {v} i =
 
 -- its text, read to a buffer
 pub text-given : {o : Option Row} {file : List ℕ} {v e : ℕ} → Value o file v e → {s t : List ℕ} {n : ℕ} → ReadTo (read_text (part v e file)) s (written.Bytes n) t
-    → (read_text (part v e file) ≡ given (take n t)) × (n ≤ length t)
+    → (read_text (part v e file) ≡ Ok (take n t)) × (n ≤ length t)
 text-given {file = file} {v = v} {e = e} w r = read-given (read_text (part v e file)) r
 
 -- ---- Name and Icon
@@ -144,8 +144,8 @@ module _ (file locale : List ℕ) where
   name-in-chosen group = rw (chosen-stands file group (ascii "Name") locale) (by (chosen (read_rows file) group (ascii "Name") locale))
     where
       by : (o : Option Row) → (some_or o Missing >>= λ r. read_text (raw_value r)) ≡ (then raw_value (some_or o Missing) >>= read_text)
-      by none = refl
-      by (some r) = refl
+      by None = refl
+      by (Some r) = refl
 
   -- the application's is Desktop Entry's
   pub name-chosen : name_text (read_rows file) locale true
@@ -153,7 +153,7 @@ module _ (file locale : List ℕ) where
   unfolding name_text
   name-chosen = name-in-chosen desktop_entry
 
-  pub name-unasked : name_text (read_rows file) locale false ≡ given []
+  pub name-unasked : name_text (read_rows file) locale false ≡ Ok []
   unfolding name_text
   name-unasked = refl
 
@@ -164,10 +164,10 @@ module _ (file locale : List ℕ) where
     unfolding icon_text read_text text_from
     icon-chosen = rw (chosen-stands file group (ascii "Icon") locale) (by (chosen (read_rows file) group (ascii "Icon") locale))
       where
-        by : (o : Option Row) → maybe o (given []) (λ r. read_text (raw_value r)) ≡ read_text (text_of (then raw_value (some_or o Missing)))
-        by none = refl
-        by (some r) = refl
+        by : (o : Option Row) → maybe o (Ok []) (λ r. read_text (raw_value r)) ≡ read_text (text_of (then raw_value (some_or o Missing)))
+        by None = refl
+        by (Some r) = refl
 
-    pub icon-unasked : icon_text (read_rows file) group locale false ≡ given []
+    pub icon-unasked : icon_text (read_rows file) group locale false ≡ Ok []
     unfolding icon_text
     icon-unasked = refl

@@ -1,10 +1,10 @@
 -- The expansion of Exec: its refusals in 01's order, and the arguments of a run as records of kind 3 (01, "Building a command"). Assumes nothing.
-use Rattle.std.specs.Prelude.{ℕ, Bool, true, false, not, ◌&&◌, List, [], length, get_or, eqb, leb, ltb}
+use Rattle.std.specs.Prelude.{ℕ, Bool, true, false, not, ◌&&◌, List, [], length, get_or, eqb, leb, ltb, Ok}
 use Rattle.base.specs.Bounds.{list_most, location_most}
 use Rattle.base.specs.Choice.{maybe}
 use Rattle.base.specs.Lists.{ascii, any, all}
 use Rattle.fault.specs.declared.Fault.TheVariants.{BadArgument, Missing, UnfitText, Damaged}
-use Rattle.fault.specs.Answer.{Answer, given, ◌>>=◌, need, some_or}
+use Rattle.fault.specs.Answer.{Answer, ◌>>=◌, need, some_or}
 use Rattle.record.specs.Record.{read_list, list_of}
 use Rattle.text.specs.Escape.{read_text}
 use Rattle.line.specs.Form.{locale_form}
@@ -34,7 +34,7 @@ asked_items file locale location list = do
   items ← some_or (read_list 2 list_most list) Damaged
   _ ← need (locale_form locale) BadArgument
   _ ← need (all fit_item items && fit_location location) UnfitText
-  given items
+  Ok items
 
 -- the text of a group's Name by locale, or 8, 9
 abbrev pub name_in : List Row → List ℕ → List ℕ → Answer (List ℕ)
@@ -44,13 +44,13 @@ name_in rs group locale = do
 
 -- the text of the application's Name, where its code stands in Exec
 unfoldable pub name_text : List Row → List ℕ → Bool → Answer (List ℕ)
-name_text rs locale false = given []
+name_text rs locale false = Ok []
 name_text rs locale true = name_in rs desktop_entry locale
 
 -- the text of a group's Icon by locale, where its code stands in Exec; a missing one is none
 unfoldable pub icon_text : List Row → List ℕ → List ℕ → Bool → Answer (List ℕ)
-icon_text rs group locale false = given []
-icon_text rs group locale true = maybe (chosen rs group (ascii "Icon") locale) (given []) (λ r. read_text (raw_value r))
+icon_text rs group locale false = Ok []
+icon_text rs group locale true = maybe (chosen rs group (ascii "Icon") locale) (Ok []) (λ r. read_text (raw_value r))
 
 -- the arguments of a run of a command, Icon from this group: 8, then Name's refusal, then Icon's
 unfoldable pub run_arguments : List Argument → List Row → List ℕ → List ℕ → List ℕ → List (List ℕ) → ℕ → Answer (List (List ℕ))
@@ -58,7 +58,7 @@ run_arguments args rs group locale location items run = do
   _ ← need (ltb run (runs args (length items))) Missing
   name ← name_text rs locale (any (has_piece is_name) args)
   icon ← icon_text rs group locale (any is_icon args)
-  given (expanded_all (run_of (record { item = get_or items run []; name = name; location = location }) items icon) args)
+  Ok (expanded_all (run_of (record { item = get_or items run []; name = name; location = location }) items icon) args)
 
 -- the arguments of a run of the Exec in a group: 8, 9, 15 and 16 by lowest place, and the run's refusals
 unfoldable pub group_arguments : List Row → List ℕ → List ℕ → List ℕ → List (List ℕ) → ℕ → Answer (List (List ℕ))
@@ -73,4 +73,4 @@ unfoldable pub expand : List ℕ → List ℕ → List ℕ → List ℕ → ℕ 
 expand file locale location list run = do
   items ← asked_items file locale location list
   args ← group_arguments (read_rows file) desktop_entry locale location items run
-  given (list_of 3 args)
+  Ok (list_of 3 args)

@@ -1,7 +1,7 @@
 -- What the inner functions of this crate answer, by the definition of the expansion. Assumes nothing.
-use Rattle.std.specs.Prelude.{◌≡◌, ℕ, ◌≤◌, List, length}
+use Rattle.std.specs.Prelude.{◌≡◌, ℕ, ◌≤◌, List, length, Ok, Err}
 use Rattle.base.specs.Over.{at_front}
-use Rattle.fault.specs.Answer.{Answer, given, refused, then}
+use Rattle.fault.specs.Answer.{Answer, then}
 use Rattle.exec.specs.declared.Counted.{Counted}
 use Rattle.exec.specs.declared.Counted.TheVariants as counted
 use Rattle.text.specs.Output.{answered}
@@ -16,5 +16,5 @@ pub record ReadTo (a : Answer (List ℕ)) (s : List ℕ) (r : Written) (t : List
 
 -- what was asked: how many items, or the refusal
 abbrev pub asked_as : Counted → Answer ℕ
-asked_as (counted.Items n) = given n
-asked_as (counted.Refused f) = refused f
+asked_as (counted.Items n) = Ok n
+asked_as (counted.Refused f) = Err f

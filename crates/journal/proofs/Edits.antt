@@ -1,7 +1,7 @@
 -- The edits of some bytes, record by record. Assumes nothing.
+use Rattle.std.specs.Prelude.{Option, Some, None, option_map}
 use mathlib.Core.Path.{◌≡◌, refl, sym, ◌∙◌}
 use mathlib.Core.Bool.{Bool, true, false}
-use mathlib.Core.Option.{Option, none, some, map}
 use mathlib.Core.List.{List, [], ◌∷◌}
 use Prim.Native.Nat.{ℕ, ◌+◌, ◌<◌}
 use native.Mathlib.Omega.{arith}
@@ -22,12 +22,12 @@ use Rattle.journal.specs.Journal.{NoPerson, Person, Authored, by, edit_length, e
 use Rattle.journal.specs.Walk.{edit_at, edits, Follows}
 
 -- a choice that gave something passed its test
-picked : {A : Type 0} (t : Bool) {x y : A} → pick t (some x) none ≡ some y → (t ≡ true) × (x ≡ y)
+picked : {A : Type 0} (t : Bool) {x y : A} → pick t (Some x) None ≡ Some y → (t ≡ true) × (x ≡ y)
 picked true h = (refl, cc)
 picked false h = no (cc)
 
 -- an edit is as long as its record
-in-length : (s : List ℕ) {e : Edit} → edit_in s ≡ some e → 12 + length e.old + length e.new ≡ length s
+in-length : (s : List ℕ) {e : Edit} → edit_in s ≡ Some e → 12 + length e.old + length e.new ≡ length s
 unfolding edit_in
 in-length s h =
     let old : ℕ = number_in (part 4 8 s) in
@@ -36,7 +36,7 @@ in-length s h =
     let n : length s ≡ 12 + old + new = eqb-true _ _ p.0 in
     rw (← p.1, length-drop) (omega (arith, length_part 12 (12 + old) s (omega arith)))
 
-pub read_length : (r : Rec) {e : Authored Edit} → read_edit r ≡ some e → edit_length e ≡ record_length r.body
+pub read_length : (r : Rec) {e : Authored Edit} → read_edit r ≡ Some e → edit_length e ≡ record_length r.body
 unfolding read_edit
 read_length r {e} h =
     by-test (eqb r.kind 1)
@@ -44,39 +44,39 @@ read_length r {e} h =
     (λ t. by-test (eqb r.kind 4)
     (λ u. let m = mapped (by (Person (number_in (take 2 r.body)))) (edit_in (drop 2 r.body)) (rw (t, u) at h) in
     rw (← m.2) (omega (arith, in-length (drop 2 r.body) m.1, length-drop 2 r.body)))
-    (λ u. let z : none ≡ some e = rw (t, u) at h in no (cc)))
+    (λ u. let z : None ≡ Some e = rw (t, u) at h in no (cc)))
 
-head_of : (e : Authored Edit) (o : Option (List (Authored Edit))) {es : List (Authored Edit)} → map (λ fs. e ∷ fs) o ≡ some es → next_of es ≡ some e
-head_of e none h = no (cc)
-head_of e (some fs) {es} h = let z : e ∷ fs ≡ es = cc in rw (← z)
+head_of : (e : Authored Edit) (o : Option (List (Authored Edit))) {es : List (Authored Edit)} → option_map (λ fs. e ∷ fs) o ≡ Some es → next_of es ≡ Some e
+head_of e None h = no (cc)
+head_of e (Some fs) {es} h = let z : e ∷ fs ≡ es = cc in rw (← z)
 
 module _ (s : List ℕ) (at : ℕ) where
   -- its record is as long
-  pub at_length : {e : Authored Edit} → edit_at s at ≡ some e → edit_length e ≡ length_at (drop at s)
+  pub at_length : {e : Authored Edit} → edit_at s at ≡ Some e → edit_length e ≡ length_at (drop at s)
   unfolding read_at
   at_length {e} h =
       by-test (whole (drop at s))
       (λ w.
       let b = whole-bounds (drop at s) w in
       omega (arith, read_length (record_at (drop at s)) (rw w at h), length_part 6 (length_at (drop at s)) (drop at s) b.1))
-      (λ w. let z : none ≡ some e = rw w at h in no (cc))
+      (λ w. let z : None ≡ Some e = rw w at h in no (cc))
 
   -- an edit, and those behind its record
-  pub edits-step : {e : Authored Edit} → edit_at s at ≡ some e → edits (drop at s) ≡ map (λ es. e ∷ es) (edits (drop (at + edit_length e) s))
+  pub edits-step : {e : Authored Edit} → edit_at s at ≡ Some e → edits (drop at s) ≡ option_map (λ es. e ∷ es) (edits (drop (at + edit_length e) s))
   edits-step {e} h = let n = at_length h in each_step read_edit s at h ∙ rw (← n)
 
   -- the first of them
-  pub edits-first : (es : List (Authored Edit)) → edits (drop at s) ≡ some es → Follows s at (next_of es)
+  pub edits-first : (es : List (Authored Edit)) → edits (drop at s) ≡ Some es → Follows s at (next_of es)
   edits-first es h =
       by-test (leb (length s) at)
       (λ t. let l = leb-true _ _ t in let z : es ≡ [] = cc (each-done read_edit s at l) in rw z l)
       (λ t. go (edit_at s at) refl (leb-false _ _ t))
     where
       go : (o : Option (Authored Edit)) → edit_at s at ≡ o → at < length s → Follows s at (next_of es)
-      go none e l = no (cc (each-damaged read_edit s at l e))
-      go (some f) e l = rw (head_of f (edits (drop (at + edit_length f) s)) (sym (edits-step e) ∙ h)) e
+      go None e l = no (cc (each-damaged read_edit s at l e))
+      go (Some f) e l = rw (head_of f (edits (drop (at + edit_length f) s)) (sym (edits-step e) ∙ h)) e
 
 -- a journal by the edits of its bytes
-pub journal-by : (s : List ℕ) (standing : ℕ) → read_journal s standing ≡ maybe (edits s) none (parted_at standing [])
+pub journal-by : (s : List ℕ) (standing : ℕ) → read_journal s standing ≡ maybe (edits s) None (parted_at standing [])
 unfolding read_journal
 journal-by s standing = refl

@@ -1,7 +1,7 @@
 -- Where the records of a journal's oldest edits end, and the call that forgets them. Assumes nothing.
+use Rattle.std.specs.Prelude.{Some, Ok, Err}
 use mathlib.Core.Path.{◌≡◌, sym, ap, ◌∙◌}
 use mathlib.Core.Bool.{true, false}
-use mathlib.Core.Option.{some}
 use mathlib.Core.List.{List, [], ◌∷◌, reverse_aux}
 use Prim.Native.Nat.{ℕ, zero, suc, ◌+◌, ◌-◌, ◌≤◌, ◌<◌}
 use native.Mathlib.Omega.{arith}
@@ -11,7 +11,7 @@ use lib.Dec.{leb}
 use Rattle.base.proofs.Tests.{no, by-test}
 use Rattle.fault.specs.declared.Fault.{Fault}
 use Rattle.fault.specs.declared.Fault.TheVariants.{Damaged, NothingLeft}
-use Rattle.fault.specs.Answer.{given, refused, accepted}
+use Rattle.fault.specs.Answer.{Answer, accepted}
 use Rattle.fault.proofs.Answers.{given_is, accepted-given}
 use Rattle.record.specs.declared.Bounds.TheVariants as bounds
 use Rattle.record.specs.Record.{Rec, record_length, read_each}
@@ -32,7 +32,7 @@ use Rattle.journal.proofs.Forgotten.{forget-shut, forget-is, forget-lacks}
 
 -- ---- where the first records end
 
-end-from : (rs : List Rec) (es : List (Authored Edit)) (n at : ℕ) {from to : ℕ} → read_each read_edit rs ≡ some es → bounds_from rs n at ≡ bounds.Body from to
+end-from : (rs : List Rec) (es : List (Authored Edit)) (n at : ℕ) {from to : ℕ} → read_each read_edit rs ≡ Some es → bounds_from rs n at ≡ bounds.Body from to
     → (to ≡ at + lengths (take (suc n) es)) × (n < length es)
 unfolding bounds_from
 end-from [] es n at r h = no (cc)
@@ -45,7 +45,7 @@ end-from (q ∷ qs) es (suc n) at r h =
     let i = end-from qs k.others n (at + record_length q.body) k.reads-others h in
     rw k.is (omega (arith, i.0, read_length q k.reads), omega (arith, i.1))
 
-fewer-from : (rs : List Rec) (es : List (Authored Edit)) (n at : ℕ) → read_each read_edit rs ≡ some es → bounds_from rs n at ≡ bounds.Missing → length es ≤ n
+fewer-from : (rs : List Rec) (es : List (Authored Edit)) (n at : ℕ) → read_each read_edit rs ≡ Some es → bounds_from rs n at ≡ bounds.Missing → length es ≤ n
 unfolding bounds_from
 fewer-from [] es n at r h = rw (none_read r) (omega arith)
 fewer-from (q ∷ qs) es zero at r h = no (cc)
@@ -79,7 +79,7 @@ first-wait k es (w ∷ ws) h l =
     let e = order-take es (w ∷ ws) (suc m) in
     omega (arith, ap (λ (n : ℕ). lengths (take n (reverse_aux es (w ∷ ws)))) z, ap lengths e, lengths-reverse es (w ∷ take m ws), front-least w.author)
 
-module _ (s : List ℕ) (standing k : ℕ) (j : Journal) (h : read_journal s standing ≡ some j) where
+module _ (s : List ℕ) (standing k : ℕ) (j : Journal) (h : read_journal s standing ≡ Some j) where
   -- no record k: fewer stand
   pub oldest-missing : 0 < k → nth_of s (k - 1) ≡ bounds.Missing → length j.stand < k
   unfolding nth_of
@@ -116,19 +116,19 @@ module _ (s : List ℕ) (standing k : ℕ) (j : Journal) (h : read_journal s sta
 
 -- how many bytes go, in an opened journal
 pub record Goes (s : Lent) (k gone : ℕ) : Type 0 where
-  pub is : forget s k ≡ given (without gone s)
+  pub is : forget s k ≡ Ok (without gone s)
   pub stands : gone ≤ s.standing
   pub bounds : Bounds s
 
 module _ (s : Lent) (k : ℕ) where
-  pub forgets-refused : {f : Fault} → forget s k ≡ refused f → Forgets s k (forgot.Refused f) s.journal
+  pub forgets-refused : {f : Fault} → forget s k ≡ Err f → Forgets s k (forgot.Refused f) s.journal
   forgets-refused e = record { answer = sym e; journal_is = rw e }
 
-  pub forget-unopened : accepted (opened s) ≡ false → forget s k ≡ refused Damaged
+  pub forget-unopened : accepted (opened s) ≡ false → forget s k ≡ Err Damaged
   forget-unopened h = forget-shut s k (opened-refused s h)
 
   module _ (h : accepted (opened s) ≡ true) where
-    pub forget-fewer : EndsOldest (used_of s) s.standing k Fewer → forget s k ≡ refused NothingLeft
+    pub forget-fewer : EndsOldest (used_of s) s.standing k Fewer → forget s k ≡ Err NothingLeft
     forget-fewer f =
         let j = accepted-given (opened s) h in
         forget-lacks s k j.0 j.1 (f j.0 (opened-says s j.0 j.1).reads)
@@ -144,15 +144,15 @@ module _ (s : Lent) (k : ℕ) where
           bounds = o.bounds;
         }
 
-  pub forgets-done : {gone : ℕ} {r : Forgot} {journal : List ℕ} → Goes s k gone → left_in journal r ≡ given (without gone s) → Forgets s k r journal
+  pub forgets-done : {gone : ℕ} {r : Forgot} {journal : List ℕ} → Goes s k gone → left_in journal r ≡ Ok (without gone s) → Forgets s k r journal
   forgets-done {gone} {r} {journal} g e = record { answer = e ∙ sym g.is; journal_is = go r e ∙ rw g.is }
     where
-      go : (r : Forgot) → left_in journal r ≡ given (without gone s) → journal ≡ (without gone s).journal
+      go : (r : Forgot) → left_in journal r ≡ Ok (without gone s) → journal ≡ (without gone s).journal
       go (forgot.Done u n) h = ap (λ (t : Lent). t.journal) (given_is (lent journal u n) (without gone s) h)
       go (forgot.Refused f) h = no (cc)
 
 -- a move to the front is all that it takes
 pub front-dropped : (s : Lent) (gone : ℕ) {journal : List ℕ} → journal ≡ buffer_with s.journal s.used (replaced 0 gone [] (used_of s))
-    → given (lent journal (s.used - gone) (s.standing - gone)) ≡ given (without gone s)
+    → ◌≡◌ {A = Answer Lent} (Ok (lent journal (s.used - gone) (s.standing - gone))) (Ok (without gone s))
 unfolding replaced
 front-dropped s gone e = let z : 0 + gone ≡ gone = omega arith in rw (e, z)

@@ -1,4 +1,5 @@
 -- A journal without its oldest edits. Assumes nothing.
+use Rattle.std.specs.Prelude.{Ok, Err}
 use mathlib.Core.Path.{◌≡◌, refl, sym, ap, ◌∙◌}
 use Prim.Native.Nat.{ℕ, ◌+◌, ◌-◌, ◌≤◌, ◌<◌, max}
 use native.Mathlib.Omega.{arith}
@@ -9,7 +10,7 @@ use lib.Dec.{leb}
 use borrow.Author.Tests.{leb-true, le-leb, lt-leb}
 use Rattle.fault.specs.declared.Fault.{Fault}
 use Rattle.fault.specs.declared.Fault.TheVariants.{NothingLeft}
-use Rattle.fault.specs.Answer.{given, refused, ◌>>=◌, need}
+use Rattle.fault.specs.Answer.{◌>>=◌, need}
 use Rattle.fault.proofs.Answers.{need-given, bind-given, given_is}
 use Rattle.splice.specs.Edit.{Edit, buffer_with}
 use Rattle.splice.proofs.Splits.{buffer-content, buffer-length}
@@ -113,16 +114,16 @@ oldest-both i k es h =
 -- ---- a journal without its oldest edits
 
 module _ (s : Lent) (k : ℕ) where
-  pub forget-shut : {f : Fault} → opened s ≡ refused f → forget s k ≡ refused f
+  pub forget-shut : {f : Fault} → opened s ≡ Err f → forget s k ≡ Err f
   unfolding forget
   forget-shut e = rw e
 
-  module _ (j : Journal) (o : opened s ≡ given j) where
-    pub forget-is : k ≤ length j.stand → forget s k ≡ given (without (lengths (oldest k j.stand)) s)
+  module _ (j : Journal) (o : opened s ≡ Ok j) where
+    pub forget-is : k ≤ length j.stand → forget s k ≡ Ok (without (lengths (oldest k j.stand)) s)
     unfolding forget
     forget-is h = rw (o, le-leb k (length j.stand) h)
 
-    pub forget-lacks : length j.stand < k → forget s k ≡ refused NothingLeft
+    pub forget-lacks : length j.stand < k → forget s k ≡ Err NothingLeft
     unfolding forget
     forget-lacks h = rw (o, lt-leb k (length j.stand) h)
 
@@ -131,22 +132,22 @@ pub record Forgotten (s t : Lent) (k : ℕ) (j : Journal) : Type 0 where
   pub enough : k ≤ length j.stand
   pub is : without (lengths (oldest k j.stand)) s ≡ t
 
-pub forget-says : (s t : Lent) (k : ℕ) (j : Journal) → opened s ≡ given j → forget s k ≡ given t → Forgotten s t k j
+pub forget-says : (s t : Lent) (k : ℕ) (j : Journal) → opened s ≡ Ok j → forget s k ≡ Ok t → Forgotten s t k j
 unfolding forget
 forget-says s t k j o e =
     let u : Lent = without (lengths (oldest k j.stand)) s in
-    let n = need-given (leb k (length j.stand)) NothingLeft (λ _. given u) t (rw o at e) in
+    let n = need-given (leb k (length j.stand)) NothingLeft (λ _. Ok u) t (rw o at e) in
     record { enough = leb-true k (length j.stand) n.0; is = given_is u t n.1 }
 
 -- there was a journal
-pub forget_opened : (s t : Lent) (k : ℕ) → forget s k ≡ given t → (j : Journal) × (opened s ≡ given j)
+pub forget_opened : (s t : Lent) (k : ℕ) → forget s k ≡ Ok t → (j : Journal) × (opened s ≡ Ok j)
 unfolding forget
 forget_opened s t k e =
-    let a = bind-given (opened s) (λ j. need (leb k (length j.stand)) NothingLeft >>= λ _. given (without (lengths (oldest k j.stand)) s)) t e in
+    let a = bind-given (opened s) (λ j. need (leb k (length j.stand)) NothingLeft >>= λ _. Ok (without (lengths (oldest k j.stand)) s)) t e in
     (a.0, a.1)
 
 -- its newer edits are left
-pub newer-opened : (s : Lent) (k : ℕ) (j : Journal) → opened s ≡ given j → opened (without (lengths (oldest k j.stand)) s) ≡ given (others k j)
+pub newer-opened : (s : Lent) (k : ℕ) (j : Journal) → opened s ≡ Ok j → opened (without (lengths (oldest k j.stand)) s) ≡ Ok (others k j)
 newer-opened s k j o =
     let gone : ℕ = lengths (oldest k j.stand) in
     let h = opened-says s j o in

@@ -1,19 +1,19 @@
 -- The person in the n-th record of a journal. Assumes nothing.
+use Rattle.std.specs.Prelude.{Some, None, Ok, Err, slice_get}
 use mathlib.Core.Path.{◌≡◌, sym, ap, ◌∙◌}
 use mathlib.Core.Bool.{true, false}
-use mathlib.Core.Option.{none, some}
 use mathlib.Core.List.{List, [], ◌∷◌}
 use Prim.Native.Nat.{ℕ, zero, suc, ◌+◌, ◌-◌, ◌≤◌}
 use native.Mathlib.Omega.{arith}
 use borrow.Author.Tests.{eqb-true, eqb-false, leb-true, leb-false}
-use lib.ListN.{length, take, drop, get_elem?}
+use lib.ListN.{length, take, drop}
 use lib.Seq.{drop-drop}
 use lib.Dec.{eqb, leb}
 use Rattle.base.specs.Choice.{there}
 use Rattle.base.specs.Lists.{part}
 use Rattle.base.proofs.Tests.{no, by-test, mapped}
 use Rattle.fault.specs.declared.Fault.TheVariants.{Damaged, NothingLeft}
-use Rattle.fault.specs.Answer.{Answer, given, refused, accepted}
+use Rattle.fault.specs.Answer.{Answer, accepted}
 use Rattle.fault.proofs.Answers.{accepted-given}
 use Rattle.record.specs.declared.Bounds.TheVariants as bounds
 use Rattle.record.specs.Number.{number_in}
@@ -39,23 +39,23 @@ pub record Found (s : List ℕ) (es : List (Authored Edit)) (n from : ℕ) : Typ
   pub edit : Authored Edit
   pub begins : from ≡ at + 6
   pub stands : Stands s at kind end
-  pub holds : edit_at s at ≡ some edit
-  pub is : get_elem? es n ≡ some edit
+  pub holds : edit_at s at ≡ Some edit
+  pub is : slice_get es n ≡ Some edit
 
-found_from : (s : List ℕ) (at : ℕ) (rs : List Rec) (es : List (Authored Edit)) (n : ℕ) {from to : ℕ} → cut (drop at s) ≡ some rs → read_each read_edit rs ≡ some es
+found_from : (s : List ℕ) (at : ℕ) (rs : List Rec) (es : List (Authored Edit)) (n : ℕ) {from to : ℕ} → cut (drop at s) ≡ Some rs → read_each read_edit rs ≡ Some es
     → bounds_from rs n at ≡ bounds.Body from to → Found s es n from
 unfolding bounds_from read_at
 found_from s at [] es n c r h = no (cc)
 found_from s at (q ∷ qs) es zero c r h =
     let w = cut-some (drop at s) c in
     let k = cons q qs es r in
-    record { at = at; kind = q.kind; end = at + record_length q.body; edit = k.edit; begins = cc; stands = (cut-some-at s at c).stands; holds = rw (w.0, w.1) k.reads; is = ap (λ (x : List (Authored Edit)). get_elem? x 0) k.is }
+    record { at = at; kind = q.kind; end = at + record_length q.body; edit = k.edit; begins = cc; stands = (cut-some-at s at c).stands; holds = rw (w.0, w.1) k.reads; is = ap (λ (x : List (Authored Edit)). slice_get x 0) k.is }
 found_from s at (q ∷ qs) es (suc n) c r h =
     let k = cons q qs es r in
     let f = found_from s (at + record_length q.body) qs k.others n (cut-some-at s at c).others k.reads-others h in
-    record { at = f.at; kind = f.kind; end = f.end; edit = f.edit; begins = f.begins; stands = f.stands; holds = f.holds; is = ap (λ (x : List (Authored Edit)). get_elem? x (suc n)) k.is ∙ f.is }
+    record { at = f.at; kind = f.kind; end = f.end; edit = f.edit; begins = f.begins; stands = f.stands; holds = f.holds; is = ap (λ (x : List (Authored Edit)). slice_get x (suc n)) k.is ∙ f.is }
 
-missing-from : (rs : List Rec) (es : List (Authored Edit)) (n at : ℕ) → read_each read_edit rs ≡ some es → bounds_from rs n at ≡ bounds.Missing → get_elem? es n ≡ none
+missing-from : (rs : List Rec) (es : List (Authored Edit)) (n at : ℕ) → read_each read_edit rs ≡ Some es → bounds_from rs n at ≡ bounds.Missing → slice_get es n ≡ None
 unfolding bounds_from
 missing-from [] es n at r h = rw (none_read r)
 missing-from (q ∷ qs) es zero at r h = no (cc)
@@ -63,14 +63,14 @@ missing-from (q ∷ qs) es (suc n) at r h =
     let k = cons q qs es r in
     rw k.is (missing-from qs k.others n (at + record_length q.body) k.reads-others h)
 
-module _ (s : List ℕ) (n : ℕ) (es : List (Authored Edit)) (e : edits s ≡ some es) where
+module _ (s : List ℕ) (n : ℕ) (es : List (Authored Edit)) (e : edits s ≡ Some es) where
   pub person-found : {from to : ℕ} → nth_of s n ≡ bounds.Body from to → Found s es n from
   unfolding nth_of
   person-found h =
       let o = of s es e in
       found_from s 0 o.records es n o.cuts o.reads (rw o.cuts at h)
 
-  pub person-missing : nth_of s n ≡ bounds.Missing → refused NothingLeft ≡ person_in es n
+  pub person-missing : nth_of s n ≡ bounds.Missing → Err NothingLeft ≡ person_in es n
   unfolding nth_of
   person-missing h =
       let o = of s es e in
@@ -94,16 +94,16 @@ module _ {s : List ℕ} {es : List (Authored Edit)} {n from : ℕ} (f : Found s 
       (λ t. omega (arith, f.begins, leb-true (f.at + 8) f.end t))
       (λ t. no (cc (f.holds, edit-stub f.stands k (leb-false (f.at + 8) f.end t))))
 
-  person-is : {m : ℕ} → m ≡ person_of f.edit.author → given m ≡ person_in es n
+  person-is : {m : ℕ} → m ≡ person_of f.edit.author → Ok m ≡ person_in es n
   person-is h = rw (f.is, h)
 
-  pub person-four : f.kind ≡ 4 → given (number_in (take 2 (drop from s))) ≡ person_in es n
+  pub person-four : f.kind ≡ 4 → Ok (number_in (take 2 (drop from s))) ≡ person_in es n
   person-four k =
       let p = edit-person f.stands k (omega (arith, f.begins, person-inside k)) in
       let m = mapped (by (Person (number_in (take 2 (drop (f.at + 6) s))))) (edit_in (part (f.at + 8) f.end s)) (sym p ∙ f.holds) in
       person-is (rw (← m.2, f.begins))
 
-  pub person-other : (f.kind ≡ 4 → ⊥) → given 0 ≡ person_in es n
+  pub person-other : (f.kind ≡ 4 → ⊥) → Ok 0 ≡ person_in es n
   person-other k =
       by-test (eqb f.kind 1)
       (λ t.
@@ -115,11 +115,11 @@ module _ {s : List ℕ} {es : List (Authored Edit)} {n from : ℕ} (f : Found s 
 -- ---- the call
 
 module _ (s : Lent) (n : ℕ) where
-  pub person-refused : accepted (opened s) ≡ false → refused Damaged ≡ person s n
+  pub person-refused : accepted (opened s) ≡ false → Err Damaged ≡ person s n
   unfolding person
   person-refused h = rw (opened-refused s h)
 
-  pub person-by : {x : Answer ℕ} → accepted (opened s) ≡ true → ((es : List (Authored Edit)) → edits (used_of s) ≡ some es → x ≡ person_in es n) → x ≡ person s n
+  pub person-by : {x : Answer ℕ} → accepted (opened s) ≡ true → ((es : List (Authored Edit)) → edits (used_of s) ≡ Some es → x ≡ person_in es n) → x ≡ person s n
   unfolding person
   person-by h t =
       let j = accepted-given (opened s) h in

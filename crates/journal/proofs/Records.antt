@@ -1,8 +1,8 @@
 -- The journal's records read back: one edit, a list of them, and where they are parted. Assumes nothing.
+use Rattle.std.specs.Prelude.{Some}
 use mathlib.Core.Path.{◌≡◌, refl, ap, ◌∙◌}
 use Prim.Native.Nat.{ℕ, zero, suc, ◌+◌, ◌-◌, ◌≤◌, ◌<◌}
 use native.Mathlib.Omega.{arith}
-use mathlib.Core.Option.{some}
 use mathlib.Core.List.{List, [], ◌∷◌, ◌++◌, append-nil, map, reverse_aux, reverse, reverse_aux-eq}
 use lib.ListN.{length, take, drop, length-append}
 use lib.Seq.{take-append_seam, drop-append_seam, take_at, drop_at}
@@ -30,7 +30,7 @@ module _ (e : Edit) where
   unfolding edit_bytes little_endian
   bytes-length = simp length-append (omega arith)
 
-  bytes_back : e.place ≤ 65536 → length e.old + length e.new ≤ 65536 → edit_in (edit_bytes e) ≡ some e
+  bytes_back : e.place ≤ 65536 → length e.old + length e.new ≤ 65536 → edit_in (edit_bytes e) ≡ Some e
   unfolding edit_in edit_bytes little_endian
   bytes_back s l =
       let p : number_in (little_endian 4 e.place) ≡ e.place = number-back 4 e.place (fits-four e.place (omega arith)) in
@@ -63,11 +63,11 @@ edit-fits e h = fits (edit_record e) (omega (arith, record-length-is e, h.length
     by-author NoPerson = omega arith
     by-author (Person n) = omega arith
 
-pub edit-back : (e : Authored Edit) → Small e → read_edit (edit_record e) ≡ some e
+pub edit-back : (e : Authored Edit) → Small e → read_edit (edit_record e) ≡ Some e
 unfolding read_edit edit_record
 edit-back e h = by-author e.author h.person-small h.place-small h.length-small
   where
-    by-author : (a : Author) → person_of a < 65536 → e.what.place ≤ 65536 → edit_length (by a e.what) ≤ 65536 → read_edit (edit_record (by a e.what)) ≡ some (by a e.what)
+    by-author : (a : Author) → person_of a < 65536 → e.what.place ≤ 65536 → edit_length (by a e.what) ≤ 65536 → read_edit (edit_record (by a e.what)) ≡ Some (by a e.what)
     by-author NoPerson p s l = rw (bytes_back e.what s (omega arith))
     by-author (Person n) p s l =
         let i = number-back 2 n (fits-two n p) in
@@ -101,7 +101,7 @@ all_fit : (es : List (Authored Edit)) → AllSmall es → FitsAll (map edit_reco
 all_fit [] h = no_record
 all_fit (e ∷ es) h = one_more (edit-fits e h.0) (all_fit es h.1)
 
-pub edits-back : (es : List (Authored Edit)) → AllSmall es → read_each read_edit (map edit_record es) ≡ some es
+pub edits-back : (es : List (Authored Edit)) → AllSmall es → read_each read_edit (map edit_record es) ≡ Some es
 unfolding read_each
 edits-back [] h = refl
 edits-back (e ∷ es) h = rw (edit-back e h.0, edits-back es h.1)
@@ -120,12 +120,12 @@ parted-from (e ∷ es) ws m =
     let z : lengths es + edit_length e + m ≡ lengths es + (edit_length e + m) = omega arith in
     rw z (parted-from es (e ∷ ws) (edit_length e + m) ∙ parted-step e m es ws)
 
-pub parted-here : (es ws : List (Authored Edit)) → parted_at 0 es ws ≡ some (record { stand = es; wait = ws })
+pub parted-here : (es ws : List (Authored Edit)) → parted_at 0 es ws ≡ Some (record { stand = es; wait = ws })
 unfolding parted_at
 parted-here es [] = refl
 parted-here es (w ∷ ws) = refl
 
-pub parted : (es ws : List (Authored Edit)) → parted_at (lengths es) [] (reverse_aux es ws) ≡ some (record { stand = es; wait = ws })
+pub parted : (es ws : List (Authored Edit)) → parted_at (lengths es) [] (reverse_aux es ws) ≡ Some (record { stand = es; wait = ws })
 parted es ws = let z : lengths es ≡ lengths es + 0 = omega arith in rw z (parted-from es ws 0 ∙ parted-here es ws)
 
 pub small-reverse : (es ws : List (Authored Edit)) → AllSmall es → AllSmall ws → AllSmall (reverse_aux es ws)
@@ -133,11 +133,11 @@ small-reverse [] ws h k = k
 small-reverse (e ∷ es) ws h k = small-reverse es (e ∷ ws) h.1 (h.0, k)
 
 -- the records of edits one after another
-pub recorded-back : (es : List (Authored Edit)) → AllSmall es → cut (recorded es) ≡ some (map edit_record es)
+pub recorded-back : (es : List (Authored Edit)) → AllSmall es → cut (recorded es) ≡ Some (map edit_record es)
 recorded-back es h = cut-back (all_fit es h)
 
 -- the journal of edits that stand and edits that wait
-pub journal-back : (es ws : List (Authored Edit)) → AllSmall (reverse_aux es ws) → read_journal (recorded (reverse_aux es ws)) (lengths es) ≡ some (record { stand = es; wait = ws })
+pub journal-back : (es ws : List (Authored Edit)) → AllSmall (reverse_aux es ws) → read_journal (recorded (reverse_aux es ws)) (lengths es) ≡ Some (record { stand = es; wait = ws })
 unfolding read_journal read_records
 journal-back es ws h = rw (recorded-back (reverse_aux es ws) h, edits-back (reverse_aux es ws) h) (parted es ws)
 

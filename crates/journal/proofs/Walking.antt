@@ -1,7 +1,7 @@
 -- The walk over a journal's records, first those that stand and then the others. Assumes nothing.
+use Rattle.std.specs.Prelude.{Option, Some, None, option_map}
 use mathlib.Core.Path.{◌≡◌, refl, ◌∙◌}
 use mathlib.Core.Bool.{true, false}
-use mathlib.Core.Option.{Option, none, some, map}
 use mathlib.Core.List.{List, [], ◌∷◌}
 use Prim.Native.Nat.{ℕ, ◌+◌, ◌-◌, ◌≤◌, ◌<◌}
 use native.Mathlib.Nat.{sub-zero, sub_self}
@@ -39,7 +39,7 @@ module _ {s : List ℕ} {at place old new end : ℕ} (r : HoldsEdit s at place o
   ends-record = omega (arith, authored-length, at_length s at r.edit)
 
   -- those from its end on are left
-  pub edits-behind : edits (drop at s) ≡ map (λ es. authored ∷ es) (edits (drop end s))
+  pub edits-behind : edits (drop at s) ≡ option_map (λ es. authored ∷ es) (edits (drop end s))
   edits-behind = edits-step s at r.edit ∙ rw authored-length
 
 -- ---- the records that stand
@@ -48,7 +48,7 @@ module _ {s : List ℕ} {at place old new end : ℕ} (r : HoldsEdit s at place o
 pub record Walking (s : List ℕ) (standing at last : ℕ) : Type 0 where
   pub stand : List (Authored Edit)
   pub below : at ≤ standing
-  pub same : read_journal s standing ≡ maybe (edits (drop at s)) none (parted_at (standing - at) stand)
+  pub same : read_journal s standing ≡ maybe (edits (drop at s)) None (parted_at (standing - at) stand)
   pub top : Latest s last at (next_of stand)
 
 pub walk-begin : (s : List ℕ) (standing : ℕ) → Walking s standing 0 0
@@ -56,31 +56,31 @@ walk-begin s standing = record { stand = []; below = omega arith; same = rw sub-
 
 -- one edit more, within the bytes that stand or beyond them
 parted-next : (n : ℕ) (stand : List (Authored Edit)) (e : Authored Edit) (o : Option (List (Authored Edit))) → edit_length e ≤ n
-    → maybe (map (λ es. e ∷ es) o) none (parted_at n stand) ≡ maybe o none (parted_at (n - edit_length e) (e ∷ stand))
+    → maybe (option_map (λ es. e ∷ es) o) None (parted_at n stand) ≡ maybe o None (parted_at (n - edit_length e) (e ∷ stand))
 unfolding parted_at
-parted-next n stand e none h = refl
-parted-next n stand e (some es) h = rw (ne_eqb n 0 (λ z. omega (arith, front-least e.author)), le-leb _ _ h)
+parted-next n stand e None h = refl
+parted-next n stand e (Some es) h = rw (ne_eqb n 0 (λ z. omega (arith, front-least e.author)), le-leb _ _ h)
 
 parted-beyond : (n : ℕ) (stand : List (Authored Edit)) (e : Authored Edit) (o : Option (List (Authored Edit))) → 0 < n → n < edit_length e
-    → maybe (map (λ es. e ∷ es) o) none (parted_at n stand) ≡ none
+    → maybe (option_map (λ es. e ∷ es) o) None (parted_at n stand) ≡ None
 unfolding parted_at
-parted-beyond n stand e none p h = refl
-parted-beyond n stand e (some es) p h = rw (ne_eqb n 0 (λ z. omega arith), lt-leb _ _ h)
+parted-beyond n stand e None p h = refl
+parted-beyond n stand e (Some es) p h = rw (ne_eqb n 0 (λ z. omega arith), lt-leb _ _ h)
 
 -- no more edits, though some bytes of records stand
-parted-short : (n : ℕ) (stand : List (Authored Edit)) → 0 < n → parted_at n stand [] ≡ none
+parted-short : (n : ℕ) (stand : List (Authored Edit)) → 0 < n → parted_at n stand [] ≡ None
 unfolding parted_at
 parted-short n stand p = rw (ne_eqb n 0 (λ z. omega arith))
 
 module _ {s : List ℕ} {standing at last : ℕ} (w : Walking s standing at last) where
-  pub walk-damaged : at < length s → edit_at s at ≡ none → read_journal s standing ≡ none
+  pub walk-damaged : at < length s → edit_at s at ≡ None → read_journal s standing ≡ None
   walk-damaged h e = w.same ∙ rw (each-damaged read_edit s at h e)
 
-  pub walk-short : at < standing → length s ≤ at → read_journal s standing ≡ none
+  pub walk-short : at < standing → length s ≤ at → read_journal s standing ≡ None
   walk-short h k = w.same ∙ rw (each-done read_edit s at k) (parted-short (standing - at) w.stand (omega arith))
 
   module _ {place old new end : ℕ} (r : HoldsEdit s at place old new end) where
-    pub walk-beyond : at < standing → standing < end → read_journal s standing ≡ none
+    pub walk-beyond : at < standing → standing < end → read_journal s standing ≡ None
     walk-beyond h k =
         w.same ∙ rw (edits-behind r) (parted-beyond (standing - at) w.stand (authored r) (edits (drop end s)) (omega arith) (omega (arith, authored-length r)))
 
@@ -97,17 +97,17 @@ module _ {s : List ℕ} {standing at last : ℕ} (w : Walking s standing at last
         }
 
   -- where all are passed that stand, those behind decide
-  walk-left : standing ≤ at → read_journal s standing ≡ maybe (edits (drop standing s)) none (parted_at 0 w.stand)
+  walk-left : standing ≤ at → read_journal s standing ≡ maybe (edits (drop standing s)) None (parted_at 0 w.stand)
   walk-left h =
       let e : at ≡ standing = omega (arith, w.below) in
       rw (e, sub_self) at w.same
 
-  pub walk-unsound : standing ≤ at → false ≡ there (edits (drop standing s)) → read_journal s standing ≡ none
+  pub walk-unsound : standing ≤ at → false ≡ there (edits (drop standing s)) → read_journal s standing ≡ None
   walk-unsound h = go (edits (drop standing s)) (walk-left h)
     where
-      go : (o : Option (List (Authored Edit))) → read_journal s standing ≡ maybe o none (parted_at 0 w.stand) → false ≡ there o → read_journal s standing ≡ none
-      go none l f = l
-      go (some es) l f = no (cc)
+      go : (o : Option (List (Authored Edit))) → read_journal s standing ≡ maybe o None (parted_at 0 w.stand) → false ≡ there o → read_journal s standing ≡ None
+      go None l f = l
+      go (Some es) l f = no (cc)
 
   pub walk-sound : standing ≤ at → true ≡ there (edits (drop standing s)) → Parted s standing last
   walk-sound h = go (edits (drop standing s)) refl (walk-left h)
@@ -115,9 +115,9 @@ module _ {s : List ℕ} {standing at last : ℕ} (w : Walking s standing at last
       e : at ≡ standing
       e = omega (arith, w.below)
 
-      go : (o : Option (List (Authored Edit))) → edits (drop standing s) ≡ o → read_journal s standing ≡ maybe o none (parted_at 0 w.stand) → true ≡ there o → Parted s standing last
-      go none q l f = no (cc)
-      go (some es) q l f =
+      go : (o : Option (List (Authored Edit))) → edits (drop standing s) ≡ o → read_journal s standing ≡ maybe o None (parted_at 0 w.stand) → true ≡ there o → Parted s standing last
+      go None q l f = no (cc)
+      go (Some es) q l f =
           record {
             journal = record { stand = w.stand; wait = es };
             reads = l ∙ parted-here w.stand es;

@@ -1,6 +1,5 @@
 -- The journal: edits as records, those that stand and those that were undone (01, "Edits and the journal"; 02, A9 and A10). Assumes nothing.
-use Rattle.std.specs.Prelude.{ℕ, ◌+◌, ◌-◌, length, take, drop, eqb, leb}
-use Rattle.std.proofs.Math.Option.{Option, none, some, map}
+use Rattle.std.specs.Prelude.{ℕ, ◌+◌, ◌-◌, length, take, drop, eqb, leb, Option, Some, None, option_map}
 use mathlib.Core.List.{List, [], ◌∷◌, ◌++◌, reverse_aux}
 use Rattle.base.specs.Choice.{pick, maybe}
 use Rattle.base.specs.Lists.{part}
@@ -68,13 +67,13 @@ unfoldable pub edit_in : List ℕ → Option Edit
 edit_in s =
     let old : ℕ = number_in (part 4 8 s) in
     let new : ℕ = number_in (part 8 12 s) in
-    pick (eqb (length s) (12 + old + new)) (some (record { place = number_in (take 4 s); old = part 12 (12 + old) s; new = drop (12 + old) s })) none
+    pick (eqb (length s) (12 + old + new)) (Some (record { place = number_in (take 4 s); old = part 12 (12 + old) s; new = drop (12 + old) s })) None
 
 -- the edit that a record holds, and its author; none: another kind, or another length
 unfoldable pub read_edit : Rec → Option (Authored Edit)
 read_edit r =
-    pick (eqb r.kind 1) (map (by NoPerson) (edit_in r.body))
-    (pick (eqb r.kind 4) (map (by (Person (number_in (take 2 r.body)))) (edit_in (drop 2 r.body))) none)
+    pick (eqb r.kind 1) (option_map (by NoPerson) (edit_in r.body))
+    (pick (eqb r.kind 4) (option_map (by (Person (number_in (take 2 r.body)))) (edit_in (drop 2 r.body))) None)
 
 -- a journal's edits: those standing, the latest first, and those undone, which wait, the next first
 pub record Journal : Type 0 where
@@ -87,19 +86,19 @@ in_order j = reverse_aux j.stand j.wait
 
 -- Edits that follow those standing, of which so many bytes of records stand too; none: that is no record boundary.
 unfoldable pub parted_at : ℕ → List (Authored Edit) → List (Authored Edit) → Option Journal
-parted_at n stand [] = pick (eqb n 0) (some (record { stand = stand; wait = [] })) none
+parted_at n stand [] = pick (eqb n 0) (Some (record { stand = stand; wait = [] })) None
 parted_at n stand (e ∷ es) =
     let further : Option Journal = parted_at (n - edit_length e) (e ∷ stand) es in
-    pick (eqb n 0) (some (record { stand = stand; wait = e ∷ es })) (pick (leb (edit_length e) n) further none)
+    pick (eqb n 0) (Some (record { stand = stand; wait = e ∷ es })) (pick (leb (edit_length e) n) further None)
 
 -- the journal in the used bytes; none: damaged
 unfoldable pub read_journal : List ℕ → ℕ → Option Journal
-read_journal used standing = maybe (read_records read_edit used) none (parted_at standing [])
+read_journal used standing = maybe (read_records read_edit used) None (parted_at standing [])
 
 -- the first of some edits
 abbrev pub next_of : List (Authored Edit) → Option (Authored Edit)
-next_of [] = none
-next_of (e ∷ es) = some e
+next_of [] = None
+next_of (e ∷ es) = Some e
 
 -- the oldest k of edits, or requests, of which the latest comes first
 abbrev pub oldest : {A : Type 0} → ℕ → List A → List A

@@ -1,9 +1,8 @@
 -- The person of a record, and forgetting the oldest edits: calls to which the journal alone is lent (02, A9 and A10). Assumes nothing.
-use Rattle.std.specs.Prelude.{◌≡◌, ℕ, ◌-◌, Bool, ◌&&◌, List, length, take, drop, leb}
-use Rattle.std.proofs.Math.ListN.{get_elem?}
+use Rattle.std.specs.Prelude.{◌≡◌, ℕ, ◌-◌, Bool, ◌&&◌, List, length, take, drop, leb, Ok, Err, slice_get}
 use Rattle.base.specs.Bounds.{journal_most}
 use Rattle.fault.specs.declared.Fault.TheVariants.{Damaged, NothingLeft}
-use Rattle.fault.specs.Answer.{Answer, given, refused, ◌>>=◌, need, some_or, then, at_exit}
+use Rattle.fault.specs.Answer.{Answer, ◌>>=◌, need, some_or, then, at_exit}
 use Rattle.splice.specs.Edit.{buffer_with}
 use Rattle.journal.specs.Journal.{Authored, person_of, lengths, Journal, oldest, in_order, read_journal}
 use Rattle.journal.specs.declared.Named.{Named}
@@ -43,7 +42,7 @@ opened s = do
 
 -- the person of the n-th of some edits, or requests, from 0: 12 without it
 abbrev pub person_in : {A : Type 0} → List (Authored A) → ℕ → Answer ℕ
-person_in xs n = then (λ x. person_of x.author) (some_or (get_elem? xs n) NothingLeft)
+person_in xs n = then (λ x. person_of x.author) (some_or (slice_get xs n) NothingLeft)
 
 -- the person of record n, standing or waiting
 unfoldable pub person : Lent → ℕ → Answer ℕ
@@ -53,8 +52,8 @@ person s n = do
 
 -- what an answer says
 abbrev pub answered : Named → Answer ℕ
-answered (named.Person n) = given n
-answered (named.Refused f) = refused f
+answered (named.Person n) = Ok n
+answered (named.Refused f) = Err f
 
 -- ---- forgetting
 
@@ -67,12 +66,12 @@ unfoldable pub forget : Lent → ℕ → Answer Lent
 forget s k = do
   j ← opened s
   _ ← need (leb k (length j.stand)) NothingLeft
-  given (without (lengths (oldest k j.stand)) s)
+  Ok (without (lengths (oldest k j.stand)) s)
 
 -- what an answer says, with the bytes left in the buffer
 abbrev pub left_in : List ℕ → Forgot → Answer Lent
-left_in journal (forgot.Done used standing) = given (lent journal used standing)
-left_in journal (forgot.Refused f) = refused f
+left_in journal (forgot.Done used standing) = Ok (lent journal used standing)
+left_in journal (forgot.Refused f) = Err f
 
 -- a call that answers so and leaves these bytes in the buffer
 pub record Forgets (s : Lent) (k : ℕ) (r : Forgot) (journal : List ℕ) : Type 0 where

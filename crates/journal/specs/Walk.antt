@@ -1,9 +1,8 @@
 -- What the functions of this crate answer, by the definitions of the journal. Assumes nothing.
-use Rattle.std.specs.Prelude.{◌≡◌, ℕ, ◌+◌, ◌-◌, ◌≤◌, ◌<◌, List, ◌++◌, length}
-use Rattle.std.proofs.Math.Option.{Option, none, some}
+use Rattle.std.specs.Prelude.{◌≡◌, ℕ, ◌+◌, ◌-◌, ◌≤◌, ◌<◌, List, ◌++◌, length, Option, Some, None, Ok, Err}
 use Rattle.base.specs.Lists.{part}
 use Rattle.fault.specs.declared.Fault.TheVariants.{Damaged, NothingLeft}
-use Rattle.fault.specs.Answer.{Answer, given, refused, ◌>>=◌, some_or, then}
+use Rattle.fault.specs.Answer.{Answer, ◌>>=◌, some_or, then}
 use Rattle.record.specs.Number.{little_endian}
 use Rattle.record.specs.Record.{head_bytes, read_records}
 use Rattle.record.specs.Walk.{read_at}
@@ -38,9 +37,9 @@ starting_at at e = record { start = at; end = at + edit_length e; edit = e.what 
 
 -- the edit that an answer names in the used bytes, and where its record begins and ends
 abbrev pub placed : List ℕ → Next → Answer Placed
-placed used next.Damaged = refused Damaged
-placed used next.Nothing = refused NothingLeft
-placed used (next.Edit start place old new end) = given (record { start = start; end = end; edit = record { place = place; old = part old new used; new = part new end used } })
+placed used next.Damaged = Err Damaged
+placed used next.Nothing = Err NothingLeft
+placed used (next.Edit start place old new end) = Ok (record { start = start; end = end; edit = record { place = place; old = part old new used; new = part new end used } })
 
 -- the latest edit that stands
 abbrev pub latest : List ℕ → ℕ → Answer Placed
@@ -77,17 +76,17 @@ edit_at s at = read_at read_edit s at
 
 -- what is read of an edit's bytes, which stand from a place up to the record's end; where the record starts is handed on
 abbrev pub ReadsBytes : List ℕ → (start from end : ℕ) → Next → Type 0
-ReadsBytes s start from end next.Damaged = edit_in (part from end s) ≡ none
+ReadsBytes s start from end next.Damaged = edit_in (part from end s) ≡ None
 ReadsBytes s start from end next.Nothing = ⊥
 ReadsBytes s start from end (next.Edit start₁ place old new end₁) =
     (start₁ ≡ start) × (end₁ ≡ end)
-    × (edit_in (part from end s) ≡ some (record { place = place; old = part old new s; new = part new end₁ s }))
+    × (edit_in (part from end s) ≡ Some (record { place = place; old = part old new s; new = part new end₁ s }))
     × (old ≡ from + 12) × (old ≤ new) × (new ≤ end₁)
 
 -- the record at a place holds an edit, whose old and new bytes stand one after the other up to its end
 pub record HoldsEdit (s : List ℕ) (at place old new end : ℕ) : Type 0 where
   pub author : Author
-  pub edit : edit_at s at ≡ some (by author (record { place = place; old = part old new s; new = part new end s }))
+  pub edit : edit_at s at ≡ Some (by author (record { place = place; old = part old new s; new = part new end s }))
   pub head : old ≡ at + front_length author
   pub old_bytes : old ≤ new
   pub new_bytes : new ≤ end
@@ -95,7 +94,7 @@ pub record HoldsEdit (s : List ℕ) (at place old new end : ℕ) : Type 0 where
 
 -- what is read at a place: an edit, none though there are bytes, or the end
 abbrev pub Reads : List ℕ → ℕ → Next → Type 0
-Reads s at next.Damaged = (at < length s) × (edit_at s at ≡ none)
+Reads s at next.Damaged = (at < length s) × (edit_at s at ≡ None)
 Reads s at next.Nothing = length s ≤ at
 Reads s at (next.Edit start place old new end) = (start ≡ at) × HoldsEdit s at place old new end
 
@@ -107,29 +106,29 @@ edits s = read_records read_edit s
 
 -- the record of the latest edit begins at a place and ends at another; where there is none, that is the start
 abbrev pub Latest : List ℕ → ℕ → ℕ → Option (Authored Edit) → Type 0
-Latest s last end none = end ≡ 0
-Latest s last end (some e) = (edit_at s last ≡ some e) × (last + edit_length e ≡ end)
+Latest s last end None = end ≡ 0
+Latest s last end (Some e) = (edit_at s last ≡ Some e) × (last + edit_length e ≡ end)
 
 -- the record of the next edit begins at a place; where there is none, that is the end
 abbrev pub Follows : List ℕ → ℕ → Option (Authored Edit) → Type 0
-Follows s at none = length s ≤ at
-Follows s at (some e) = edit_at s at ≡ some e
+Follows s at None = length s ≤ at
+Follows s at (Some e) = edit_at s at ≡ Some e
 
 -- a sound journal, and where its latest record that stands begins
 pub record Parted (s : List ℕ) (standing last : ℕ) : Type 0 where
   pub journal : Journal
-  pub reads : read_journal s standing ≡ some journal
+  pub reads : read_journal s standing ≡ Some journal
   pub latest_at : Latest s last standing (next_of journal.stand)
   pub next_at : Follows s standing (next_of journal.wait)
 
 -- what a walk over the records finds
 abbrev pub Walks : List ℕ → ℕ → Walked → Type 0
-Walks s standing walked.Damaged = read_journal s standing ≡ none
+Walks s standing walked.Damaged = read_journal s standing ≡ None
 Walks s standing (walked.Sound last) = Parted s standing last
 
 -- what is told of the n-th record
 abbrev pub TellsPerson : List ℕ → ℕ → Named → Type 0
-TellsPerson s n r = (es : List (Authored Edit)) → edits s ≡ some es → lent.answered r ≡ person_in es n
+TellsPerson s n r = (es : List (Authored Edit)) → edits s ≡ Some es → lent.answered r ≡ person_in es n
 
 -- where the records of the oldest k of those that stand end, or that fewer stand
 abbrev pub OldestIn : List (Authored Edit) → ℕ → Oldest → Type 0
@@ -138,4 +137,4 @@ OldestIn stand k Fewer = length stand < k
 
 -- so of the bytes of a sound journal
 abbrev pub EndsOldest : List ℕ → ℕ → ℕ → Oldest → Type 0
-EndsOldest s standing k r = (j : Journal) → read_journal s standing ≡ some j → OldestIn j.stand k r
+EndsOldest s standing k r = (j : Journal) → read_journal s standing ≡ Some j → OldestIn j.stand k r

@@ -1,10 +1,10 @@
 // The journal of edits, who made them, and forgetting the oldest.
 #![tactic(auto)]
 
-ghost use Rattle.std.specs.Prelude.{◌≡◌, true, ◌++◌, ◌+◌, ◌≤◌, length, drop};
+ghost use Rattle.std.specs.Prelude.{◌≡◌, true, ◌++◌, ◌+◌, ◌≤◌, length, drop, Ok};
 ghost use Rattle.base.specs.Choice.{there};
 ghost use Rattle.base.specs.Over.{over};
-ghost use Rattle.fault.specs.Answer.{given, accepted};
+ghost use Rattle.fault.specs.Answer.{accepted};
 ghost use Rattle.record.specs.Number.{little_endian};
 ghost use Rattle.record.specs.Record.{head_bytes};
 ghost use Rattle.journal.specs.Journal as journal;
@@ -312,7 +312,7 @@ fn oldest_end(used: &[u8], standing: usize, k: usize) -> Oldest
 // So many bytes go at the journal's front, of those that stand.
 fn drop_front(journal: &mut [u8], used: usize, standing: usize, gone: usize) -> Forgot
     requires { (gone ≤ standing) × (standing ≤ used) × (used ≤ length journal.old) }
-    ensures { lent.left_in journal.new result ≡ given (lent.without gone (lent.lent journal.old used standing)) }
+    ensures { lent.left_in journal.new result ≡ Ok (lent.without gone (lent.lent journal.old used standing)) }
 {
     splice::replace(journal, used, 0, gone, b"");
     Forgot::Done {

@@ -1,9 +1,9 @@
 -- The bounds that a line's reading tells lie in the line, in their order. Assumes nothing.
+use Rattle.std.specs.Prelude.{Option, Some, None}
 use mathlib.Core.Path.{◌≡◌, refl, sym}
 use Prim.Native.Nat.{ℕ, ◌+◌, ◌≤◌, ◌<◌}
 use native.Mathlib.Omega.{arith}
 use mathlib.Core.Bool.{Bool, true, false}
-use mathlib.Core.Option.{Option, none, some}
 use mathlib.Core.List.{List}
 use lib.ListN.{length, drop, length-drop}
 use lib.Dec.{eqb}
@@ -85,8 +85,8 @@ after-within s key name h i j = go (eqb (byte_at s sign) 61) (text_fault value_b
     go : (t : Bool) (o : Option ℕ) → eqb (byte_at s sign) 61 ≡ t → FaultWithin (length (drop value s)) o
         → LineWithin (length s) (after_by key name sign value t o)
     go false o e k = span-from space_byte s name j
-    go true none e k = (h, i, omega arith, span-from space_byte s (sign + 1) (omega (arith, byte-within s sign 61 (omega arith) e)))
-    go true (some n) e k =
+    go true None e k = (h, i, omega arith, span-from space_byte s (sign + 1) (omega (arith, byte-within s sign 61 (omega arith) e)))
+    go true (Some n) e k =
         omega (arith, length-drop value s, span-from space_byte s (sign + 1) (omega (arith, byte-within s sign 61 (omega arith) e)))
 
 entry-within : (s : List ℕ) → LineWithin (length s) (read_entry s)

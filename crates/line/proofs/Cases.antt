@@ -1,8 +1,8 @@
 -- Readings by the tests that they make, for proofs by cases on what these say. Assumes nothing.
+use Rattle.std.specs.Prelude.{Option, Some, None}
 use mathlib.Core.Path.{◌≡◌, refl}
 use Prim.Native.Nat.{ℕ, suc, ◌+◌}
 use mathlib.Core.Bool.{Bool, true, false}
-use mathlib.Core.Option.{Option, none, some}
 use mathlib.Core.List.{List, ◌∷◌}
 use lib.ListN.{length, drop}
 use lib.Dec.{eqb, eqb-zero-suc, eqb-suc-zero, eqb-suc-suc}
@@ -33,7 +33,7 @@ modifier_of s = part_length 64 (drop (lang_of s + country_of s + encoding_of s) 
 -- a locale by the lengths of its parts, and which is empty
 abbrev pub locale_by : (l n e m : ℕ) (t₁ t₂ t₃ t₄ : Bool) → Locale
 locale_by l n e m t₁ t₂ t₃ t₄ =
-    maybe (pick t₁ (some 0) (pick t₂ (some (l + 1)) (pick t₃ (some (l + n + 1)) (pick t₄ (some (l + n + e + 1)) none)))) (End (l + n + e + m)) Unfinished
+    maybe (pick t₁ (Some 0) (pick t₂ (Some (l + 1)) (pick t₃ (Some (l + n + 1)) (pick t₄ (Some (l + n + e + 1)) None)))) (End (l + n + e + m)) Unfinished
 
 -- after a name: where `=` is looked for, and where the value starts
 abbrev pub sign_at : List ℕ → ℕ → ℕ

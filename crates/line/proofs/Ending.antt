@@ -1,9 +1,9 @@
 -- What stands before a bad line's byte: some ending makes a good line of it. Assumes nothing.
+use Rattle.std.specs.Prelude.{Option, Some, None}
 use mathlib.Core.Path.{◌≡◌, refl, sym, ap, ◌∙◌}
 use Prim.Native.Nat.{ℕ, suc, ◌+◌, ◌≤◌, ◌<◌}
 use native.Mathlib.Omega.{arith}
 use mathlib.Core.Bool.{Bool, true, false}
-use mathlib.Core.Option.{Option, none, some}
 use mathlib.Core.List.{List, [], ◌∷◌, ◌++◌}
 use lib.ListN.{length, drop, length-append, length-drop, drop_of_length-le}
 use lib.Seq.{drop-append-le, drop-append_seam, drop-append-add, get_or-append_seam, get_or-append-add}
@@ -203,10 +203,10 @@ after-mended p v key name a f e = go (eqb (byte_at (p ++ v) sign) 61) (text_faul
     value : ℕ
     value = value_at (p ++ v) name
 
-    text : (m : ℕ) → value + m ≡ length p → text_fault value_byte Start (drop value (p ++ v)) ≡ some m → TextEnding value_byte Start (drop value p)
+    text : (m : ℕ) → value + m ≡ length p → text_fault value_byte Start (drop value (p ++ v)) ≡ Some m → TextEnding value_byte Start (drop value p)
     text m k j =
         let z : m ≡ length (drop value p) = omega (arith, length-drop value p) in
-        text-ending value_byte Start (drop value p) v tt (rw (← drop-append-le value p v (omega arith)) (j ∙ ap some z))
+        text-ending value_byte Start (drop value p) v tt (rw (← drop-append-le value p v (omega arith)) (j ∙ ap Some z))
 
     go : (t : Bool) (o : Option ℕ) → eqb (byte_at (p ++ v) sign) 61 ≡ t → text_fault value_byte Start (drop value (p ++ v)) ≡ o
         → after_by key name sign value t o ≡ Bad (length p) → Mended p
@@ -219,8 +219,8 @@ after-mended p v key name a f e = go (eqb (byte_at (p ++ v) sign) 61) (text_faul
           bytes = refl;
           good = f w b ∙ after-sign p key name (ap (λ (n : ℕ). name + n) (span-same-at space_byte w p v name (omega arith, λ _. refl)) ∙ k);
         }
-    go true none i j e = no (cc)
-    go true (some m) i j e =
+    go true None i j e = no (cc)
+    go true (Some m) i j e =
         let k : value + m ≡ length p = cc in
         let t = text m k j in
         let w = t.ending in

@@ -1,9 +1,9 @@
 -- What the reading of an entry and of a name says, fact by fact, and back. Assumes nothing.
+use Rattle.std.specs.Prelude.{Option, Some, None}
 use mathlib.Core.Path.{◌≡◌, refl, sym, ap, ◌∙◌}
 use Prim.Native.Nat.{ℕ, ◌+◌}
 use native.Mathlib.Omega.{arith}
 use mathlib.Core.Bool.{Bool, true, false}
-use mathlib.Core.Option.{Option, none, some}
 use mathlib.Core.List.{List}
 use lib.ListN.{length, take, drop}
 use lib.Dec.{eqb}
@@ -33,7 +33,7 @@ pub record IsEntry (s : List ℕ) (key name value : ℕ) : Type 0 where
   pub named : read_name s ≡ Name key name
   pub sign : eqb (byte_at s (sign_at s name)) 61 ≡ true
   pub starts : value ≡ value_at s name
-  pub text : text_fault value_byte Start (drop value s) ≡ none
+  pub text : text_fault value_byte Start (drop value s) ≡ None
 
 header-no-entry : (s : List ℕ) (key name value : ℕ) → read_header s ≡ Entry key name value → ⊥
 unfolding read_header
@@ -52,7 +52,7 @@ record IsAfter (s : List ℕ) (key name key₁ name₁ value : ℕ) : Type 0 whe
   pub name-is : name ≡ name₁
   pub after-sign : eqb (byte_at s (sign_at s name)) 61 ≡ true
   pub after-starts : value ≡ value_at s name
-  pub after_text : text_fault value_byte Start (drop (value_at s name) s) ≡ none
+  pub after_text : text_fault value_byte Start (drop (value_at s name) s) ≡ None
 
 is-after : (s : List ℕ) (key name key₁ name₁ value : ℕ) → entry_after s key name ≡ Entry key₁ name₁ value → IsAfter s key name key₁ name₁ value
 unfolding entry_after
@@ -61,8 +61,8 @@ is-after s key name key₁ name₁ value e = by (eqb (byte_at s (sign_at s name)
     by : (t : Bool) (o : Option ℕ) → eqb (byte_at s (sign_at s name)) 61 ≡ t → text_fault value_byte Start (drop (value_at s name) s) ≡ o
         → pick t (maybe o (Entry key name (value_at s name)) (λ n. Bad (value_at s name + n))) (Bad (sign_at s name)) ≡ Entry key₁ name₁ value
         → IsAfter s key name key₁ name₁ value
-    by true none t o e = record { key-is = cc; name-is = cc; after-sign = t; after-starts = cc; after_text = o }
-    by true (some n) t o e = no (cc)
+    by true None t o e = record { key-is = cc; name-is = cc; after-sign = t; after-starts = cc; after_text = o }
+    by true (Some n) t o e = no (cc)
     by false o t p e = no (cc)
 
 pub is-entry : (s : List ℕ) (key name value : ℕ) → read_line s ≡ Entry key name value → IsEntry s key name value
@@ -98,7 +98,7 @@ is-entry s key name value e =
 pub entry-is : (s : List ℕ) (key name value : ℕ) → IsEntry s key name value → read_line s ≡ Entry key name value
 unfolding read_line read_entry entry_after
 entry-is s key name value h =
-    let t : text_fault value_byte Start (drop (value_at s name) s) ≡ none = rw (← h.starts) h.text in
+    let t : text_fault value_byte Start (drop (value_at s name) s) ≡ None = rw (← h.starts) h.text in
     rw (h.some_byte, h.no-comment, h.no_header, h.no-blank, h.named, h.sign, t) (ap (Entry key name) (sym h.starts))
 
 -- ---- what a name's reading says
@@ -109,7 +109,7 @@ bracket s key = key + 1 + locale_end (parts (drop (key + 1) s))
 
 pub data IsName (s : List ℕ) (key name : ℕ) : Type 0 where
   plain-name : key ≡ span key_byte s → eqb key 0 ≡ false → eqb (byte_at s key) 91 ≡ false → name ≡ key → IsName s key name
-  postfixed : key ≡ span key_byte s → eqb key 0 ≡ false → eqb (byte_at s key) 91 ≡ true → empty_part (parts (drop (key + 1) s)) ≡ none
+  postfixed : key ≡ span key_byte s → eqb key 0 ≡ false → eqb (byte_at s key) 91 ≡ true → empty_part (parts (drop (key + 1) s)) ≡ None
       → eqb (byte_at s (bracket s key)) 93 ≡ true → name ≡ bracket s key + 1 → IsName s key name
 
 pub is_name_lem : (s : List ℕ) (key name : ℕ) → read_name s ≡ Name key name → IsName s key name
@@ -123,12 +123,12 @@ is_name_lem s key name e =
     by : (a b : Bool) (o : Option ℕ) (c : Bool) → eqb k 0 ≡ a → eqb (byte_at s k) 91 ≡ b → empty_part (parts (drop (k + 1) s)) ≡ o → eqb (byte_at s (bracket s k)) 93 ≡ c
         → pick a (NoName 0) (pick b (maybe o (pick c (Name k (bracket s k + 1)) (NoName (bracket s k))) (λ n. NoName (k + 1 + n))) (Name k k)) ≡ Name key name → IsName s key name
     by true b o c t₁ t₂ t₃ t₄ e = no (cc)
-    by false true none true t₁ t₂ t₃ t₄ e =
+    by false true None true t₁ t₂ t₃ t₄ e =
         let i : k ≡ key = cc in
         let j : name ≡ bracket s k + 1 = cc in
         postfixed (sym i) (rw (← i) t₁) (rw (← i) t₂) (rw (← i) t₃) (rw (← i) t₄) (rw (← i) j)
-    by false true none false t₁ t₂ t₃ t₄ e = no (cc)
-    by false true (some n) c t₁ t₂ t₃ t₄ e = no (cc)
+    by false true None false t₁ t₂ t₃ t₄ e = no (cc)
+    by false true (Some n) c t₁ t₂ t₃ t₄ e = no (cc)
     by false false o c t₁ t₂ t₃ t₄ e =
         let i : k ≡ key = cc in
         let j : k ≡ name = cc in

@@ -1,9 +1,9 @@
 -- What the first byte of a line says of its reading. Assumes nothing.
+use Rattle.std.specs.Prelude.{Option, Some, None}
 use mathlib.Core.Path.{◌≡◌, refl, sym, ◌∙◌}
 use Prim.Native.Nat.{ℕ, suc, ◌+◌, ◌<◌}
 use native.Mathlib.Omega.{arith}
 use mathlib.Core.Bool.{Bool, true, false, ◌||◌, false≢true}
-use mathlib.Core.Option.{Option, none, some}
 use mathlib.Core.List.{List, [], ◌∷◌}
 use lib.ListN.{length, drop}
 use lib.Dec.{eqb, eqb-zero-suc}
@@ -100,8 +100,8 @@ after-unheaded s key name e = go (eqb (byte_at s sign) 61) (text_fault value_byt
 
     go : (t : Bool) (o : Option ℕ) → Unheaded s (pick t (maybe o (Entry key name value) (λ n. Bad (value + n))) (Bad sign))
     go false o = tt
-    go true none = e
-    go true (some n) = tt
+    go true None = e
+    go true (Some n) = tt
 
 entry-unheaded : (s : List ℕ) → Unheaded s (read_entry s)
 unfolding read_entry

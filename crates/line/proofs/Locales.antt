@@ -1,9 +1,9 @@
 -- A locale at the front of a list: its parts stay inside, and what asks for one asks `locale_at`. Assumes nothing.
+use Rattle.std.specs.Prelude.{Option, Some, None}
 use mathlib.Core.Path.{◌≡◌, refl, sym, ap, ◌∙◌}
 use Prim.Native.Nat.{ℕ, zero, suc, ◌+◌, ◌-◌, ◌≤◌, ◌<◌}
 use native.Mathlib.Omega.{arith}
 use mathlib.Core.Bool.{Bool, true, false}
-use mathlib.Core.Option.{Option, none, some}
 use mathlib.Core.List.{List, [], ◌∷◌}
 use lib.ListN.{length, take, drop, length-drop}
 use lib.Dec.{eqb}
@@ -47,8 +47,8 @@ parts_within s =
 
 -- a byte that is missing stands in a part or at its end
 abbrev PartWithin : ℕ → Option ℕ → Type 0
-PartWithin n none = Unit
-PartWithin n (some m) = m ≤ n
+PartWithin n None = Unit
+PartWithin n (Some m) = m ≤ n
 
 empty-within : (p : Parts) → PartWithin (locale_end p) (empty_part p)
 unfolding empty_part
@@ -56,7 +56,7 @@ empty-within p = go (eqb p.lang 0) (eqb p.country 1) (eqb p.encoding 1) (eqb p.m
   where
     go : (a b c d : Bool) → eqb p.country 1 ≡ b → eqb p.encoding 1 ≡ c → eqb p.modifier 1 ≡ d
         → PartWithin (locale_end p)
-        (pick a (some 0) (pick b (some (p.lang + 1)) (pick c (some (p.lang + p.country + 1)) (pick d (some (p.lang + p.country + p.encoding + 1)) none))))
+        (pick a (Some 0) (pick b (Some (p.lang + 1)) (pick c (Some (p.lang + p.country + 1)) (pick d (Some (p.lang + p.country + p.encoding + 1)) None))))
     go true b c d i j k = omega arith
     go false true c d i j k = omega (arith, eqb-true p.country 1 i)
     go false false true d i j k = omega (arith, eqb-true p.encoding 1 j)
@@ -74,8 +74,8 @@ locale-within s = go (empty_part (parts s)) (parts_within s) (empty-within (part
   where
     go : (o : Option ℕ) → locale_end (parts s) ≤ length s → PartWithin (locale_end (parts s)) o
         → LocaleWithin (length s) (maybe o (locale.End (locale_end (parts s))) locale.Unfinished)
-    go none h k = h
-    go (some n) h k = omega arith
+    go None h k = h
+    go (Some n) h k = omega arith
 
 -- the same of a tail that was lent
 pub locale-lent : (s : List ℕ) (from : ℕ) → LocaleWithin (length s - from) (locale_at (take (length s - from) (drop from s)))
@@ -119,8 +119,8 @@ postfix-by s key = go (empty_part p)
 
     go : (o : Option ℕ)
         → maybe o (pick (eqb (byte_at s e) 93) (Name key (e + 1)) (NoName e)) (λ n. NoName (key + 1 + n)) ≡ postfix_of s key (maybe o (locale.End (locale_end p)) locale.Unfinished)
-    go none = refl
-    go (some n) = refl
+    go None = refl
+    go (Some n) = refl
 
 -- the same of a tail that was lent
 pub postfix-lent : (s : List ℕ) (key : ℕ) {l : Locale} → l ≡ locale_at (take (length s - (key + 1)) (drop (key + 1) s)) → postfix_at s key ≡ postfix_of s key l
@@ -137,8 +137,8 @@ locale-by s = go (empty_part (parts s))
   where
     go : (o : Option ℕ)
         → maybe o (eqb (locale_end (parts s)) (length s)) (λ n. false) ≡ ends_at (length s) (maybe o (locale.End (locale_end (parts s))) locale.Unfinished)
-    go none = refl
-    go (some n) = refl
+    go None = refl
+    go (Some n) = refl
 
 -- a postfix that is a language alone
 pub postfix-short : (s : List ℕ) (key n : ℕ) → n ≡ key + 1 + span key_byte (drop (key + 1) s) → key + 1 < n → byte_at s n ≡ 93 → Name key (n + 1) ≡ postfix_at s key

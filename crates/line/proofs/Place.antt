@@ -1,9 +1,9 @@
 -- The place of a bad line's byte is right: after it no ending makes a good line, and before it some ending does. Assumes nothing.
+use Rattle.std.specs.Prelude.{Option, Some, None}
 use mathlib.Core.Path.{◌≡◌, refl, sym, ap, ◌∙◌}
 use Prim.Native.Nat.{ℕ, suc, ◌+◌, ◌≤◌, ◌<◌}
 use native.Mathlib.Omega.{arith}
 use mathlib.Core.Bool.{Bool, true, false}
-use mathlib.Core.Option.{Option, none, some}
 use mathlib.Core.List.{List, [], ◌∷◌, ◌++◌, append_assoc}
 use lib.ListN.{length, take, drop, length-append, length-drop, take-append-drop}
 use lib.Seq.{length-take-le, drop-append-le, get_or-append_seam}
@@ -43,7 +43,7 @@ module _ (w p v : List ℕ) where
       value : ℕ
       value = value_at (p ++ v) name
 
-      text : (m : ℕ) → value + m < length p → text_fault value_byte Start (drop value (p ++ v)) ≡ some m → text_fault value_byte Start (drop value (p ++ w)) ≡ some m
+      text : (m : ℕ) → value + m < length p → text_fault value_byte Start (drop value (p ++ v)) ≡ Some m → text_fault value_byte Start (drop value (p ++ w)) ≡ Some m
       text m h j =
           let l : value ≤ length p = omega arith in
           rw (drop-append-le value p w l) (fault-inside value_byte Start (drop value p) v w m (rw (drop-append-le value p v l) at j) (omega (arith, length-drop value p)))
@@ -54,8 +54,8 @@ module _ (w p v : List ℕ) where
           let k : sign ≡ n = cc in
           let l : sign < length p = omega arith in
           (omega arith, rw (span-same-at space_byte w p v name (cut_inside (span space_byte w ≡ 0) p sign l), byte-same p v w sign l, i) e)
-      go true none i j e = no (cc)
-      go true (some m) i j e =
+      go true None i j e = no (cc)
+      go true (Some m) i j e =
           let k : value + m ≡ n = cc in
           (omega arith, after_same w p v key name (cut_inside (span space_byte w ≡ 0) p value (omega arith)) i ∙ rw (text m (omega arith) j) e)
 

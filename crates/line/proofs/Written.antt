@@ -1,9 +1,9 @@
 -- Entries that are written read as entries: another value after the same name, and a new name with its value. Assumes nothing.
+use Rattle.std.specs.Prelude.{None}
 use mathlib.Core.Path.{◌≡◌, refl, ap, ◌∙◌}
 use Prim.Native.Nat.{ℕ, suc, ◌+◌, ◌<◌}
 use native.Mathlib.Omega.{arith}
 use mathlib.Core.Bool.{Bool, true, false, false≢true}
-use mathlib.Core.Option.{none}
 use mathlib.Core.List.{List, [], ◌∷◌, ◌++◌, append-nil}
 use lib.ListN.{length, take, drop}
 use lib.Seq.{drop-append_seam, drop-append-add, get_or-append-add, take-length}
@@ -34,7 +34,7 @@ use Rattle.line.proofs.Fronts.{NoKey, name-same, after_same}
 -- a value that may be written: a text that begins with no space
 pub record Value (v : List ℕ) : Type 0 where
   pub front : span space_byte v ≡ 0
-  pub text : text_fault value_byte Start v ≡ none
+  pub text : text_fault value_byte Start v ≡ None
 
 -- ---- a line that begins with a name is an entry or bad
 

@@ -1,7 +1,6 @@
 -- A locale: lang, then perhaps _COUNTRY, .ENCODING, @MODIFIER in that order (01, "Lines of a file"). Assumes nothing.
-use Rattle.std.specs.Prelude.{ℕ, suc, ◌+◌, Bool, false, List, [], ◌∷◌, length, drop, eqb}
+use Rattle.std.specs.Prelude.{ℕ, suc, ◌+◌, Bool, false, List, [], ◌∷◌, length, drop, eqb, Option, Some, None}
 use Prim.Native.Char.{code}
-use Rattle.std.proofs.Math.Option.{Option, none, some}
 use Rattle.base.specs.Choice.{pick, maybe}
 use Rattle.base.specs.Lists.{span}
 use Rattle.characters.specs.Class.{key_byte}
@@ -30,10 +29,10 @@ locale_end p = p.lang + p.country + p.encoding + p.modifier
 -- the place of the first part's byte that is missing: no lang, or a mark with nothing after it
 unfoldable pub empty_part : Parts → Option ℕ
 empty_part p =
-    pick (eqb p.lang 0) (some 0)
-    (pick (eqb p.country 1) (some (p.lang + 1))
-    (pick (eqb p.encoding 1) (some (p.lang + p.country + 1))
-    (pick (eqb p.modifier 1) (some (p.lang + p.country + p.encoding + 1)) none)))
+    pick (eqb p.lang 0) (Some 0)
+    (pick (eqb p.country 1) (Some (p.lang + 1))
+    (pick (eqb p.encoding 1) (Some (p.lang + p.country + 1))
+    (pick (eqb p.modifier 1) (Some (p.lang + p.country + p.encoding + 1)) None)))
 
 -- a locale at the front: where it ends, or the byte that is missing
 unfoldable pub locale_at : List ℕ → Locale

@@ -1,7 +1,7 @@
 -- What is written is read back: a record, a list of records; and a list's bytes have no other reading. Assumes nothing.
+use Rattle.std.specs.Prelude.{Some, option_map}
 use mathlib.Core.Path.{◌≡◌, ◌∙◌}
 use mathlib.Core.Bool.{true}
-use mathlib.Core.Option.{some, map}
 use mathlib.Core.List.{List, [], ◌∷◌, ◌++◌}
 use Prim.Native.Nat.{ℕ, suc, ◌+◌, ◌-◌, ◌<◌}
 use native.Mathlib.Omega.{arith}
@@ -54,7 +54,7 @@ module _ (r : Rec) (s : List ℕ) where
         whole-if (record_bytes r ++ s) (omega arith) (omega arith) (omega arith)
 
     -- a record before others is cut off
-    pub cut_record : cut (record_bytes r ++ s) ≡ map (λ rs. r ∷ rs) (cut s)
+    pub cut_record : cut (record_bytes r ++ s) ≡ option_map (λ rs. r ∷ rs) (cut s)
     cut_record =
         cut_step (record_bytes r ++ s) record-whole
         ∙ rw (record-at, record-length, record-drop (length r.body), drop-append_seam r.body s)
@@ -65,7 +65,7 @@ pub data FitsAll : List Rec → Type 0 where
   one_more : {r : Rec} {rs : List Rec} → Fits r → FitsAll rs → FitsAll (r ∷ rs)
 
 -- a list of records reads back, whatever the kinds
-pub cut-back : {rs : List Rec} → FitsAll rs → cut (list_bytes rs) ≡ some rs
+pub cut-back : {rs : List Rec} → FitsAll rs → cut (list_bytes rs) ≡ Some rs
 unfolding list_bytes joined
 cut-back no_record = cut-none
 cut-back (one_more {r = r} {rs = rs} h hs) = rw (cut_record r (list_bytes rs) h, cut-back hs)

@@ -1,8 +1,7 @@
 -- The bodies of a list of records of one kind, record by record; how a loop counts them; what a sound list holds. Assumes nothing.
+use Rattle.std.specs.Prelude.{Option, Some, None, option_map}
 use mathlib.Core.Path.{◌≡◌, refl, ap, ◌∙◌}
 use mathlib.Core.Bool.{Bool, true, false}
-use mathlib.Core.Option
-use mathlib.Core.Option.{Option, none, some}
 use mathlib.Core.List.{List, [], ◌∷◌, map}
 use Prim.Native.Nat.{ℕ, ◌+◌, ◌≤◌, ◌<◌}
 use native.Mathlib.Omega.{arith}
@@ -24,62 +23,62 @@ use Rattle.record.proofs.Back.{FitsAll, cut-back}
 
 -- the bodies of records of one kind that fill the bytes; none: damaged
 unfoldable pub bodies : ℕ → List ℕ → Option (List (List ℕ))
-bodies kind s = maybe (cut s) none (bodies_of kind)
+bodies kind s = maybe (cut s) None (bodies_of kind)
 
 -- ---- record by record
 
 module _ (kind : ℕ) where
-  pub bodies-none : bodies kind [] ≡ some []
+  pub bodies-none : bodies kind [] ≡ Some []
   unfolding bodies bodies_of all
   bodies-none = rw cut-none
 
   -- a record of another kind, and one of this kind, before others
-  other-first : (r : Rec) (o : Option (List Rec)) → (r.kind ≡ kind → ⊥) → maybe (Option.map (λ rs. r ∷ rs) o) none (bodies_of kind) ≡ none
+  other-first : (r : Rec) (o : Option (List Rec)) → (r.kind ≡ kind → ⊥) → maybe (option_map (λ rs. r ∷ rs) o) None (bodies_of kind) ≡ None
   unfolding bodies_of all
-  other-first r none n = refl
-  other-first r (some rs) n = rw (ne_eqb _ _ n)
+  other-first r None n = refl
+  other-first r (Some rs) n = rw (ne_eqb _ _ n)
 
   this-first : (r : Rec) (o : Option (List Rec)) → r.kind ≡ kind
-      → maybe (Option.map (λ rs. r ∷ rs) o) none (bodies_of kind) ≡ Option.map (λ bs. r.body ∷ bs) (maybe o none (bodies_of kind))
+      → maybe (option_map (λ rs. r ∷ rs) o) None (bodies_of kind) ≡ option_map (λ bs. r.body ∷ bs) (maybe o None (bodies_of kind))
   unfolding bodies_of all
-  this-first r none e = refl
-  this-first r (some rs) e = rw (eq-eqb _ _ e) (by_all (all (λ q. eqb q.kind kind) rs))
+  this-first r None e = refl
+  this-first r (Some rs) e = rw (eq-eqb _ _ e) (by_all (all (λ q. eqb q.kind kind) rs))
     where
-      by_all : (t : Bool) → pick t (some (r.body ∷ map (λ q. q.body) rs)) none ≡ Option.map (λ bs. r.body ∷ bs) (pick t (some (map (λ q. q.body) rs)) none)
+      by_all : (t : Bool) → pick t (Some (r.body ∷ map (λ q. q.body) rs)) None ≡ option_map (λ bs. r.body ∷ bs) (pick t (Some (map (λ q. q.body) rs)) None)
       by_all true = refl
       by_all false = refl
 
   module _ (s : List ℕ) where
-    pub bodies-damaged : 0 < length s → whole s ≡ false → bodies kind s ≡ none
+    pub bodies-damaged : 0 < length s → whole s ≡ false → bodies kind s ≡ None
     unfolding bodies
     bodies-damaged h e = rw (cut-damaged s h e)
 
-    pub bodies-other : whole s ≡ true → ((record_at s).kind ≡ kind → ⊥) → bodies kind s ≡ none
+    pub bodies-other : whole s ≡ true → ((record_at s).kind ≡ kind → ⊥) → bodies kind s ≡ None
     unfolding bodies
     bodies-other w n = rw (cut_step s w) (other-first (record_at s) (cut (drop (length_at s) s)) n)
 
-    pub bodies-step : whole s ≡ true → (record_at s).kind ≡ kind → bodies kind s ≡ Option.map (λ bs. (record_at s).body ∷ bs) (bodies kind (drop (length_at s) s))
+    pub bodies-step : whole s ≡ true → (record_at s).kind ≡ kind → bodies kind s ≡ option_map (λ bs. (record_at s).body ∷ bs) (bodies kind (drop (length_at s) s))
     unfolding bodies
     bodies-step w e = rw (cut_step s w) (this-first (record_at s) (cut (drop (length_at s) s)) e)
 
   -- the same at a place
-  pub bodies-done : (s : List ℕ) (at : ℕ) → length s ≤ at → bodies kind (drop at s) ≡ some []
+  pub bodies-done : (s : List ℕ) (at : ℕ) → length s ≤ at → bodies kind (drop at s) ≡ Some []
   bodies-done s at h = rw (done s at h) bodies-none
 
-  pub bodies-damaged-at : (s : List ℕ) (at : ℕ) → at < length s → whole (drop at s) ≡ false → bodies kind (drop at s) ≡ none
+  pub bodies-damaged-at : (s : List ℕ) (at : ℕ) → at < length s → whole (drop at s) ≡ false → bodies kind (drop at s) ≡ None
   bodies-damaged-at s at h e = bodies-damaged (drop at s) (simp length-drop (omega arith)) e
 
   module _ {s : List ℕ} {at k end : ℕ} (r : Stands s at k end) where
-    pub bodies-other-at : (k ≡ kind → ⊥) → bodies kind (drop at s) ≡ none
+    pub bodies-other-at : (k ≡ kind → ⊥) → bodies kind (drop at s) ≡ None
     bodies-other-at n = bodies-other (drop at s) r.is_whole (λ e. n (r.has-kind ∙ e))
 
-    pub bodies-at : k ≡ kind → bodies kind (drop at s) ≡ Option.map (λ bs. part (at + 6) end s ∷ bs) (bodies kind (drop end s))
+    pub bodies-at : k ≡ kind → bodies kind (drop at s) ≡ option_map (λ bs. part (at + 6) end s ∷ bs) (bodies kind (drop end s))
     unfolding bodies
     bodies-at e = rw (cut_at r) (this-first _ (cut (drop end s)) e)
 
 -- ---- within a number of bytes
 
-pub list-long : (kind most : ℕ) (s : List ℕ) → most < length s → read_list kind most s ≡ none
+pub list-long : (kind most : ℕ) (s : List ℕ) → most < length s → read_list kind most s ≡ None
 unfolding read_list
 list-long kind most s h = rw (lt-leb _ _ h)
 
@@ -95,12 +94,12 @@ filled_by o = maybe o filled.Damaged (λ bs. filled.Records (length bs))
 
 -- the same with so many records before these
 abbrev counted : ℕ → Option (List (List ℕ)) → Filled
-counted n none = filled.Damaged
-counted n (some bs) = filled.Records (n + length bs)
+counted n None = filled.Damaged
+counted n (Some bs) = filled.Records (n + length bs)
 
-counted_next : (n : ℕ) (b : List ℕ) (o : Option (List (List ℕ))) → counted n (Option.map (λ bs. b ∷ bs) o) ≡ counted (n + 1) o
-counted_next n b none = refl
-counted_next n b (some bs) = ap filled.Records (omega arith)
+counted_next : (n : ℕ) (b : List ℕ) (o : Option (List (List ℕ))) → counted n (option_map (λ bs. b ∷ bs) o) ≡ counted (n + 1) o
+counted_next n b None = refl
+counted_next n b (Some bs) = ap filled.Records (omega arith)
 
 -- so many records stand before a place, and those from there on decide
 pub record Counting (kind most : ℕ) (s : List ℕ) (at n : ℕ) : Type 0 where
@@ -117,8 +116,8 @@ unfolding count_of
 count-begin kind most s h = record { inside = omega arith; few = omega arith; same = rw (list-within kind most s h) (go (bodies kind s)) }
   where
     go : (o : Option (List (List ℕ))) → filled_by o ≡ counted 0 o
-    go none = refl
-    go (some bs) = ap filled.Records (omega arith)
+    go None = refl
+    go (Some bs) = ap filled.Records (omega arith)
 
 module _ {kind most : ℕ} {s : List ℕ} {at n : ℕ} (w : Counting kind most s at n) where
   pub count-damaged : at < length s → whole (drop at s) ≡ false → filled.Damaged ≡ count_of kind most s
@@ -147,43 +146,43 @@ bodies_in rs = map (λ r. r.body) rs
 -- what a list that reads holds
 pub record Sound (kind most : ℕ) (s : List ℕ) (bs : List (List ℕ)) : Type 0 where
   pub records : List Rec
-  pub cuts : cut s ≡ some records
+  pub cuts : cut s ≡ Some records
   pub bodies_are : bs ≡ bodies_in records
   pub one-kind : all (λ r. eqb r.kind kind) records ≡ true
   pub short : length s ≤ most
 
-pub list-sound : (kind most : ℕ) (s : List ℕ) {bs : List (List ℕ)} → read_list kind most s ≡ some bs → Sound kind most s bs
+pub list-sound : (kind most : ℕ) (s : List ℕ) {bs : List (List ℕ)} → read_list kind most s ≡ Some bs → Sound kind most s bs
 unfolding read_list bodies_of
 list-sound kind most s {bs} = go (leb (length s) most) (cut s) refl refl
   where
-    go : (t : Bool) (o : Option (List Rec)) → leb (length s) most ≡ t → cut s ≡ o → pick t (maybe o none (bodies_of kind)) none ≡ some bs → Sound kind most s bs
+    go : (t : Bool) (o : Option (List Rec)) → leb (length s) most ≡ t → cut s ≡ o → pick t (maybe o None (bodies_of kind)) None ≡ Some bs → Sound kind most s bs
     go false o l e h = no (cc)
-    go true none l e h = no (cc)
-    go true (some rs) l e h = by_kind (all (λ r. eqb r.kind kind) rs) refl h
+    go true None l e h = no (cc)
+    go true (Some rs) l e h = by_kind (all (λ r. eqb r.kind kind) rs) refl h
       where
-        by_kind : (t : Bool) → all (λ r. eqb r.kind kind) rs ≡ t → pick t (some (bodies_in rs)) none ≡ some bs → Sound kind most s bs
+        by_kind : (t : Bool) → all (λ r. eqb r.kind kind) rs ≡ t → pick t (Some (bodies_in rs)) None ≡ Some bs → Sound kind most s bs
         by_kind true a h = record { records = rs; cuts = e; bodies_are = cc; one-kind = a; short = leb-true _ _ l }
         by_kind false a h = no (cc)
 
-pub list-cut : (kind most : ℕ) (s : List ℕ) {bs : List (List ℕ)} → read_list kind most s ≡ some bs → there (cut s) ≡ true
+pub list-cut : (kind most : ℕ) (s : List ℕ) {bs : List (List ℕ)} → read_list kind most s ≡ Some bs → there (cut s) ≡ true
 list-cut kind most s e = rw (list-sound kind most s e).cuts
 
 -- what `count` answers: the list reads, and has so many bodies; or it does not read
-pub count-reads : (kind most : ℕ) (s : List ℕ) {n : ℕ} → count_of kind most s ≡ filled.Records n → (bs : List (List ℕ)) × (read_list kind most s ≡ some bs) × (length bs ≡ n)
+pub count-reads : (kind most : ℕ) (s : List ℕ) {n : ℕ} → count_of kind most s ≡ filled.Records n → (bs : List (List ℕ)) × (read_list kind most s ≡ Some bs) × (length bs ≡ n)
 unfolding count_of
 count-reads kind most s {n} = go (read_list kind most s)
   where
-    go : (o : Option (List (List ℕ))) → filled_by o ≡ filled.Records n → (bs : List (List ℕ)) × (o ≡ some bs) × (length bs ≡ n)
-    go none e = no (cc)
-    go (some bs) e = (bs, refl, cc)
+    go : (o : Option (List (List ℕ))) → filled_by o ≡ filled.Records n → (bs : List (List ℕ)) × (o ≡ Some bs) × (length bs ≡ n)
+    go None e = no (cc)
+    go (Some bs) e = (bs, refl, cc)
 
-pub count-refuses : (kind most : ℕ) (s : List ℕ) → count_of kind most s ≡ filled.Damaged → read_list kind most s ≡ none
+pub count-refuses : (kind most : ℕ) (s : List ℕ) → count_of kind most s ≡ filled.Damaged → read_list kind most s ≡ None
 unfolding count_of
 count-refuses kind most s = go (read_list kind most s)
   where
-    go : (o : Option (List (List ℕ))) → filled_by o ≡ filled.Damaged → o ≡ none
-    go none e = refl
-    go (some bs) e = no (cc)
+    go : (o : Option (List (List ℕ))) → filled_by o ≡ filled.Damaged → o ≡ None
+    go None e = refl
+    go (Some bs) e = no (cc)
 
 -- ---- written bodies read back
 
@@ -196,6 +195,6 @@ bodies-back : (kind : ℕ) (bs : List (List ℕ)) → bodies_in (records_of kind
 bodies-back kind [] = refl
 bodies-back kind (b ∷ bs) = rw (bodies-back kind bs)
 
-pub list_back : (kind most : ℕ) (bs : List (List ℕ)) → FitsAll (records_of kind bs) → length (list_of kind bs) ≤ most → read_list kind most (list_of kind bs) ≡ some bs
+pub list_back : (kind most : ℕ) (bs : List (List ℕ)) → FitsAll (records_of kind bs) → length (list_of kind bs) ≤ most → read_list kind most (list_of kind bs) ≡ Some bs
 unfolding list_of bodies bodies_of
 list_back kind most bs f h = rw (list-within kind most (list_of kind bs) h, cut-back f, one-kind-all kind bs, bodies-back kind bs)

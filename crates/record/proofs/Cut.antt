@@ -1,7 +1,7 @@
 -- Records cut off a list of bytes one after another: what a loop over records goes by. Assumes nothing.
+use Rattle.std.specs.Prelude.{Option, Some, None, option_map}
 use mathlib.Core.Path.{◌≡◌, refl, sym, ap, ◌∙◌}
 use mathlib.Core.Bool.{true, false, false≢true}
-use mathlib.Core.Option.{Option, none, some, map}
 use mathlib.Core.List.{List, [], ◌∷◌}
 use Prim.Native.Nat.{ℕ, zero, suc, ◌+◌, ◌-◌, ◌≤◌, ◌<◌}
 use native.Mathlib.Nat.{le_of_suc-le-suc, not-suc-le-zero}
@@ -14,7 +14,7 @@ use Rattle.base.proofs.Tests.{no, by-test}
 use Rattle.record.specs.Record.{Rec, record_length, length_at, record_at, whole, cut_after, cut}
 use Rattle.record.proofs.Place.{Stands, whole-bounds}
 
-pub cut-none : cut [] ≡ some []
+pub cut-none : cut [] ≡ Some []
 unfolding cut_after
 cut-none = refl
 
@@ -30,7 +30,7 @@ drop-pred zero b bs h = absurd (omega arith)
 drop-pred (suc n) b bs h = let k : suc n - 1 ≡ n = omega arith in rw k
 
 -- a whole record at the front is cut off
-pub cut_step : (s : List ℕ) → whole s ≡ true → cut s ≡ map (λ rs. record_at s ∷ rs) (cut (drop (length_at s) s))
+pub cut_step : (s : List ℕ) → whole s ≡ true → cut s ≡ option_map (λ rs. record_at s ∷ rs) (cut (drop (length_at s) s))
 unfolding cut_after
 cut_step [] e = absurd (false≢true (unfold whole in e))
 cut_step (b ∷ bs) e =
@@ -38,14 +38,14 @@ cut_step (b ∷ bs) e =
     rw (e, cut-passes bs (length_at (b ∷ bs) - 1) (omega arith), drop-pred (length_at (b ∷ bs)) b bs (omega arith))
 
 -- bytes with no whole record at the front are damaged
-pub cut-damaged : (s : List ℕ) → 0 < length s → whole s ≡ false → cut s ≡ none
+pub cut-damaged : (s : List ℕ) → 0 < length s → whole s ≡ false → cut s ≡ None
 unfolding cut_after
 cut-damaged [] h e = absurd (not-suc-le-zero h)
 cut-damaged (b ∷ bs) h e = rw e
 
 -- ---- at a place
 
-pub cut-damaged-at : (s : List ℕ) (at : ℕ) → at < length s → whole (drop at s) ≡ false → cut (drop at s) ≡ none
+pub cut-damaged-at : (s : List ℕ) (at : ℕ) → at < length s → whole (drop at s) ≡ false → cut (drop at s) ≡ None
 cut-damaged-at s at h e = cut-damaged (drop at s) (simp length-drop (omega arith)) e
 
 module _ {s : List ℕ} {at kind end : ℕ} (r : Stands s at kind end) where
@@ -59,31 +59,31 @@ module _ {s : List ℕ} {at kind end : ℕ} (r : Stands s at kind end) where
       let n : length_at (drop at s) - 6 ≡ end - (at + 6) = omega arith in
       rw (n, drop-drop 6 at s)
 
-  pub cut_at : cut (drop at s) ≡ map (λ rs. record { kind = kind; body = part (at + 6) end s } ∷ rs) (cut (drop end s))
+  pub cut_at : cut (drop at s) ≡ option_map (λ rs. record { kind = kind; body = part (at + 6) end s } ∷ rs) (cut (drop end s))
   cut_at = rw (cut_step (drop at s) r.is_whole, rest_at, body_at, ← r.has-kind)
 
 -- ---- a list that is cut
 
 -- the records of a sound list that is not empty: the first at the front, and the others behind it
-pub cut-some : (s : List ℕ) {r : Rec} {rs : List Rec} → cut s ≡ some (r ∷ rs)
-    → (whole s ≡ true) × (record_at s ≡ r) × (cut (drop (length_at s) s) ≡ some rs)
+pub cut-some : (s : List ℕ) {r : Rec} {rs : List Rec} → cut s ≡ Some (r ∷ rs)
+    → (whole s ≡ true) × (record_at s ≡ r) × (cut (drop (length_at s) s) ≡ Some rs)
 cut-some [] e = no (cc cut-none)
 cut-some (b ∷ bs) {r} {rs} e =
     by-test (whole (b ∷ bs))
     (λ w. let t = taken (record_at (b ∷ bs)) (cut (drop (length_at (b ∷ bs)) (b ∷ bs))) (sym (cut_step (b ∷ bs) w) ∙ e) in (w, t.0, t.1))
     (λ w. no (cc (cut-damaged (b ∷ bs) (omega arith) w)))
   where
-    taken : (q : Rec) (o : Option (List Rec)) → map (λ qs. q ∷ qs) o ≡ some (r ∷ rs) → (q ≡ r) × (o ≡ some rs)
-    taken q none h = no (cc)
-    taken q (some qs) h = (cc, cc)
+    taken : (q : Rec) (o : Option (List Rec)) → option_map (λ qs. q ∷ qs) o ≡ Some (r ∷ rs) → (q ≡ r) × (o ≡ Some rs)
+    taken q None h = no (cc)
+    taken q (Some qs) h = (cc, cc)
 
 -- the same at a place
 pub record CutAt (s : List ℕ) (at : ℕ) (r : Rec) (rs : List Rec) : Type 0 where
   pub stands : Stands s at r.kind (at + record_length r.body)
   pub body : part (at + 6) (at + record_length r.body) s ≡ r.body
-  pub others : cut (drop (at + record_length r.body) s) ≡ some rs
+  pub others : cut (drop (at + record_length r.body) s) ≡ Some rs
 
-pub cut-some-at : (s : List ℕ) (at : ℕ) {r : Rec} {rs : List Rec} → cut (drop at s) ≡ some (r ∷ rs) → CutAt s at r rs
+pub cut-some-at : (s : List ℕ) (at : ℕ) {r : Rec} {rs : List Rec} → cut (drop at s) ≡ Some (r ∷ rs) → CutAt s at r rs
 cut-some-at s at {r} {rs} e =
     let c = cut-some (drop at s) e in
     let b = whole-bounds (drop at s) c.0 in

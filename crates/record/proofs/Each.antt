@@ -1,7 +1,7 @@
 -- What the records of some bytes hold, record by record: what a loop over them goes by. Assumes nothing.
+use Rattle.std.specs.Prelude.{Option, Some, None, option_map}
 use mathlib.Core.Path.{◌≡◌, refl, sym, ◌∙◌}
 use mathlib.Core.Bool.{true, false}
-use mathlib.Core.Option.{Option, none, some, map}
 use mathlib.Core.List.{List, [], ◌∷◌}
 use Prim.Native.Nat.{ℕ, ◌+◌, ◌≤◌, ◌<◌}
 use lib.ListN.{length, drop}
@@ -17,16 +17,16 @@ use Rattle.record.proofs.Cut.{cut-none, cut_step, cut-damaged-at, body_at}
 
 module _ {A : Type 0} (read : Rec → Option A) where
   -- a record before others
-  first-none : (r : Rec) (o : Option (List Rec)) → read r ≡ none → maybe (map (λ rs. r ∷ rs) o) none (read_each read) ≡ none
+  first-none : (r : Rec) (o : Option (List Rec)) → read r ≡ None → maybe (option_map (λ rs. r ∷ rs) o) None (read_each read) ≡ None
   unfolding read_each
-  first-none r none h = refl
-  first-none r (some rs) h = rw h
+  first-none r None h = refl
+  first-none r (Some rs) h = rw h
 
-  first_some : (r : Rec) (o : Option (List Rec)) {a : A} → read r ≡ some a
-      → maybe (map (λ rs. r ∷ rs) o) none (read_each read) ≡ map (λ xs. a ∷ xs) (maybe o none (read_each read))
+  first_some : (r : Rec) (o : Option (List Rec)) {a : A} → read r ≡ Some a
+      → maybe (option_map (λ rs. r ∷ rs) o) None (read_each read) ≡ option_map (λ xs. a ∷ xs) (maybe o None (read_each read))
   unfolding read_each
-  first_some r none h = refl
-  first_some r (some rs) h = rw h
+  first_some r None h = refl
+  first_some r (Some rs) h = rw h
 
   module _ (s : List ℕ) (at : ℕ) where
     -- the records behind the first
@@ -34,12 +34,12 @@ module _ {A : Type 0} (read : Rec → Option A) where
     behind = cut (drop (length_at (drop at s)) (drop at s))
 
     -- the end
-    pub each-done : length s ≤ at → read_records read (drop at s) ≡ some []
+    pub each-done : length s ≤ at → read_records read (drop at s) ≡ Some []
     unfolding read_records read_each
     each-done h = rw (done s at h, cut-none)
 
     -- none can be read
-    pub each-damaged : at < length s → read_at read s at ≡ none → read_records read (drop at s) ≡ none
+    pub each-damaged : at < length s → read_at read s at ≡ None → read_records read (drop at s) ≡ None
     unfolding read_records read_at
     each-damaged h e =
         by-test (whole (drop at s))
@@ -47,15 +47,15 @@ module _ {A : Type 0} (read : Rec → Option A) where
         (λ w. rw (cut-damaged-at s at h w))
 
     -- one, and those behind it
-    pub each_step : {a : A} → read_at read s at ≡ some a → read_records read (drop at s) ≡ map (λ xs. a ∷ xs) (read_records read (drop (at + length_at (drop at s)) s))
+    pub each_step : {a : A} → read_at read s at ≡ Some a → read_records read (drop at s) ≡ option_map (λ xs. a ∷ xs) (read_records read (drop (at + length_at (drop at s)) s))
     unfolding read_records read_at
     each_step {a} h =
         by-test (whole (drop at s))
         (λ w. rw (cut_step (drop at s) w, ← drop-drop (length_at (drop at s)) at s) (first_some (record_at (drop at s)) behind (rw w at h)))
-        (λ w. let z : none ≡ some a = rw w at h in no (cc))
+        (λ w. let z : None ≡ Some a = rw w at h in no (cc))
 
     -- what is read at a place: of the record that stands there, or nothing
-    pub at_none : whole (drop at s) ≡ false → read_at read s at ≡ none
+    pub at_none : whole (drop at s) ≡ false → read_at read s at ≡ None
     unfolding read_at
     at_none e = rw e
 
@@ -73,10 +73,10 @@ module _ {A : Type 0} (read : Rec → Option A) where
   fill-begin s from = record { same = refl }
 
   module _ {s : List ℕ} {from at : ℕ} (w : Filling s from at) where
-    pub fill-damaged : at < length s → read_at read s at ≡ none → false ≡ there (read_records read (drop from s))
+    pub fill-damaged : at < length s → read_at read s at ≡ None → false ≡ there (read_records read (drop from s))
     fill-damaged h e = rw (each-damaged s at h e) at w.same
 
-    pub fill-next : {a : A} {end : ℕ} → read_at read s at ≡ some a → end ≡ at + length_at (drop at s) → Filling s from end
+    pub fill-next : {a : A} {end : ℕ} → read_at read s at ≡ Some a → end ≡ at + length_at (drop at s) → Filling s from end
     fill-next {a} {end} h e =
         let z = read_records read (drop end s) in
         record { same = sym (there-map (λ xs. a ∷ xs) z) ∙ rw (each_step s at h, ← e) at w.same }

@@ -1,9 +1,9 @@
 -- Lists of records taken apart and put together, whatever their bytes. Assumes nothing.
+use Rattle.std.specs.Prelude.{Option, Some, None, option_map}
 use mathlib.Core.Path.{◌≡◌, refl, sym, ap, ◌∙◌}
 use Prim.Native.Nat.{ℕ, ◌-◌, ◌≤◌}
 use native.Mathlib.Omega.{arith}
 use mathlib.Core.Bool.{true}
-use mathlib.Core.Option.{Option, none, some, map}
 use mathlib.Core.List.{List, [], ◌∷◌, ◌++◌}
 use lib.ListN.{length, take, drop, length-append, length-drop, take-append-drop}
 use lib.Seq.{take-append-le, drop-append-le, drop-length, drop-drop, length-take-le, take-take, take-add}
@@ -17,16 +17,16 @@ use Rattle.record.proofs.Sizes.{list_length}
 use Rattle.record.proofs.Cut.{cut-none, cut_step, cut-damaged, cut-some}
 
 -- no records, no bytes
-cut-empty : (s : List ℕ) → cut s ≡ some [] → s ≡ []
+cut-empty : (s : List ℕ) → cut s ≡ Some [] → s ≡ []
 cut-empty [] e = refl
 cut-empty (b ∷ bs) e =
     by-test (whole (b ∷ bs))
     (λ w. go (cut (drop (length_at (b ∷ bs)) (b ∷ bs))) (sym (cut_step (b ∷ bs) w) ∙ e))
     (λ w. no (cc (cut-damaged (b ∷ bs) (omega arith) w)))
   where
-    go : (o : Option (List Rec)) → map (λ rs. record_at (b ∷ bs) ∷ rs) o ≡ some [] → b ∷ bs ≡ []
-    go none h = no (cc)
-    go (some rs) h = no (cc)
+    go : (o : Option (List Rec)) → option_map (λ rs. record_at (b ∷ bs) ∷ rs) o ≡ Some [] → b ∷ bs ≡ []
+    go None h = no (cc)
+    go (Some rs) h = no (cc)
 
 -- a whole record at the front stands there too with more behind it
 module _ (x y : List ℕ) (w : whole x ≡ true) where
@@ -46,24 +46,24 @@ module _ (x y : List ℕ) (w : whole x ≡ true) where
   front-whole = let b = whole-bounds x w in let n = front_length_lem in whole-if (x ++ y) (omega (arith, length-append x y)) (omega arith) (omega (arith, length-append x y))
 
 -- records and then others
-pub cut-join : (rs : List Rec) (x y : List ℕ) → cut x ≡ some rs → cut (x ++ y) ≡ map (λ qs. rs ++ qs) (cut y)
+pub cut-join : (rs : List Rec) (x y : List ℕ) → cut x ≡ Some rs → cut (x ++ y) ≡ option_map (λ qs. rs ++ qs) (cut y)
 cut-join [] x y e = rw (cut-empty x e) (go (cut y))
   where
-    go : (o : Option (List Rec)) → o ≡ map (λ qs. qs) o
-    go none = refl
-    go (some qs) = refl
+    go : (o : Option (List Rec)) → o ≡ option_map (λ qs. qs) o
+    go None = refl
+    go (Some qs) = refl
 cut-join (r ∷ rs) x y e =
     let c = cut-some x e in
     let b = whole-bounds x c.0 in
     cut_step (x ++ y) (front-whole x y c.0)
     ∙ rw (front-record x y c.0, front_length_lem x y c.0, drop-append-le (length_at x) x y b.1, cut-join rs (drop (length_at x) x) y c.2, c.1) (go (cut y))
   where
-    go : (o : Option (List Rec)) → map (λ qs. r ∷ qs) (map (λ qs. rs ++ qs) o) ≡ map (λ qs. r ∷ (rs ++ qs)) o
-    go none = refl
-    go (some qs) = refl
+    go : (o : Option (List Rec)) → option_map (λ qs. r ∷ qs) (option_map (λ qs. rs ++ qs) o) ≡ option_map (λ qs. r ∷ (rs ++ qs)) o
+    go None = refl
+    go (Some qs) = refl
 
 -- one record alone
-cut-one : (s : List ℕ) → whole s ≡ true → cut (take (length_at s) s) ≡ some (record_at s ∷ [])
+cut-one : (s : List ℕ) → whole s ≡ true → cut (take (length_at s) s) ≡ Some (record_at s ∷ [])
 cut-one s w =
     let n : ℕ = length_at s in
     let b = whole-bounds s w in
@@ -73,10 +73,10 @@ cut-one s w =
     let u : whole x ≡ true = whole-if x (omega arith) (omega arith) (omega arith) in
     let r : record_at s ≡ record_at x = ap record_at (sym (take-append-drop n s)) ∙ front-record x (drop n s) u in
     let d : drop (length_at x) x ≡ [] = ap (λ (k : ℕ). drop k x) (m ∙ sym l) ∙ drop-length x in
-    cut_step x u ∙ ap (λ (t : List ℕ). map (λ rs. record_at x ∷ rs) (cut t)) d ∙ ap (map (λ rs. record_at x ∷ rs)) cut-none ∙ ap (λ (q : Rec). some (q ∷ [])) (sym r)
+    cut_step x u ∙ ap (λ (t : List ℕ). option_map (λ rs. record_at x ∷ rs) (cut t)) d ∙ ap (option_map (λ rs. record_at x ∷ rs)) cut-none ∙ ap (λ (q : Rec). Some (q ∷ [])) (sym r)
 
 -- the first of some records, and the others
-pub cut-parted : (rs qs : List Rec) (s : List ℕ) → cut s ≡ some (rs ++ qs) → (cut (take (list_length rs) s) ≡ some rs) × (cut (drop (list_length rs) s) ≡ some qs)
+pub cut-parted : (rs qs : List Rec) (s : List ℕ) → cut s ≡ Some (rs ++ qs) → (cut (take (list_length rs) s) ≡ Some rs) × (cut (drop (list_length rs) s) ≡ Some qs)
 unfolding list_length
 cut-parted [] qs s e = (cut-none, e)
 cut-parted (r ∷ rs) qs s e =
@@ -87,7 +87,7 @@ cut-parted (r ∷ rs) qs s e =
     (rw (n, take-add (length_at s) (list_length rs) s) (cut-join (record_at s ∷ []) (take (length_at s) s) (take (list_length rs) (drop (length_at s) s)) (cut-one s c.0) ∙ rw (p.0, c.1)), rw (n, ← drop-drop (list_length rs) (length_at s) s) p.1)
 
 -- they fill the bytes
-pub cut-length : (rs : List Rec) (s : List ℕ) → cut s ≡ some rs → list_length rs ≡ length s
+pub cut-length : (rs : List Rec) (s : List ℕ) → cut s ≡ Some rs → list_length rs ≡ length s
 unfolding list_length
 cut-length [] s e = rw (cut-empty s e)
 cut-length (r ∷ rs) s e =

@@ -1,7 +1,7 @@
 -- The n-th body of a list of records: how a loop finds it, and that it is the n-th record's. Assumes nothing.
+use Rattle.std.specs.Prelude.{Option, Some, None, option_map}
 use mathlib.Core.Path.{◌≡◌, refl, sym, ◌∙◌}
 use mathlib.Core.Bool.{true, false}
-use mathlib.Core.Option.{Option, none, some, map}
 use mathlib.Core.List.{List, [], ◌∷◌}
 use Prim.Native.Nat.{ℕ, zero, suc, ◌+◌, ◌-◌, ◌≤◌, ◌<◌}
 use native.Mathlib.Omega.{arith}
@@ -36,15 +36,15 @@ unfolding nth_of
 seek-begin n h = record { inside = omega arith; sound = h; same = refl }
 
 module _ (r : Rec) (at : ℕ) where
-  sought-next : (o : Option (List Rec)) {n m : ℕ} → n ≡ suc m → sought (map (λ rs. r ∷ rs) o) n at ≡ sought o m (at + record_length r.body)
+  sought-next : (o : Option (List Rec)) {n m : ℕ} → n ≡ suc m → sought (option_map (λ rs. r ∷ rs) o) n at ≡ sought o m (at + record_length r.body)
   unfolding bounds_from
-  sought-next none e = refl
-  sought-next (some rs) e = rw e
+  sought-next None e = refl
+  sought-next (Some rs) e = rw e
 
-  sought-here : (o : Option (List Rec)) → there o ≡ true → sought (map (λ rs. r ∷ rs) o) 0 at ≡ bounds.Body (at + 6) (at + record_length r.body)
+  sought-here : (o : Option (List Rec)) → there o ≡ true → sought (option_map (λ rs. r ∷ rs) o) 0 at ≡ bounds.Body (at + 6) (at + record_length r.body)
   unfolding bounds_from
-  sought-here none e = no (cc)
-  sought-here (some rs) e = refl
+  sought-here None e = no (cc)
+  sought-here (Some rs) e = refl
 
 module _ {s : List ℕ} {n at left : ℕ} (w : Seeking s n at left) where
   pub seek-damaged : at < length s → whole (drop at s) ≡ false → bounds.Missing ≡ nth_of s n
@@ -84,7 +84,7 @@ pub record NthBody (s : List ℕ) (bs : List (List ℕ)) (n from to : ℕ) : Typ
   pub ordered : from ≤ to
   pub inside : to ≤ length s
 
-nth-from : (s : List ℕ) (at : ℕ) (rs : List Rec) (n : ℕ) {from to : ℕ} → cut (drop at s) ≡ some rs → bounds_from rs n at ≡ bounds.Body from to
+nth-from : (s : List ℕ) (at : ℕ) (rs : List Rec) (n : ℕ) {from to : ℕ} → cut (drop at s) ≡ Some rs → bounds_from rs n at ≡ bounds.Body from to
     → NthBody s (bodies_in rs) n from to
 unfolding bounds_from
 nth-from s at [] n e h = no (cc)
@@ -97,7 +97,7 @@ nth-from s at (r ∷ rs) (suc n) e h =
     let c = nth-from s (at + record_length r.body) rs n (cut-some-at s at e).others h in
     record { among = omega arith; body = c.body; ordered = c.ordered; inside = c.inside }
 
-pub nth-part : (s : List ℕ) (rs : List Rec) (n : ℕ) {from to : ℕ} → cut s ≡ some rs → bounds_from rs n 0 ≡ bounds.Body from to → NthBody s (bodies_in rs) n from to
+pub nth-part : (s : List ℕ) (rs : List Rec) (n : ℕ) {from to : ℕ} → cut s ≡ Some rs → bounds_from rs n 0 ≡ bounds.Body from to → NthBody s (bodies_in rs) n from to
 nth-part s = nth-from s 0
 
 -- no body: the records are fewer
@@ -108,7 +108,7 @@ nth-missing (r ∷ rs) zero at h = no (cc)
 nth-missing (r ∷ rs) (suc n) at h = let l = nth-missing rs n (at + record_length r.body) h in omega arith
 
 -- the same of a list of one kind
-module _ (kind most : ℕ) (s : List ℕ) {bs : List (List ℕ)} (n : ℕ) (e : read_list kind most s ≡ some bs) where
+module _ (kind most : ℕ) (s : List ℕ) {bs : List (List ℕ)} (n : ℕ) (e : read_list kind most s ≡ Some bs) where
   pub nth-body : {from to : ℕ} → nth_of s n ≡ bounds.Body from to → NthBody s bs n from to
   unfolding nth_of
   nth-body h =

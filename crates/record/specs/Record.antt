@@ -1,8 +1,6 @@
 -- Records of any kind and lists of them: the length of the whole record (4 bytes), the kind (2), then the record's own bytes, its body.
 -- Assumes nothing.
-use Rattle.std.specs.Prelude.{ℕ, zero, suc, ◌+◌, ◌-◌, Bool, ◌&&◌, List, [], ◌∷◌, ◌++◌, map, length, take, eqb, leb}
-use Rattle.std.proofs.Math.Option
-use Rattle.std.proofs.Math.Option.{Option, none, some}
+use Rattle.std.specs.Prelude.{ℕ, zero, suc, ◌+◌, ◌-◌, Bool, ◌&&◌, List, [], ◌∷◌, ◌++◌, map, length, take, eqb, leb, Option, Some, None, option_map}
 use Rattle.base.specs.Choice.{pick, maybe}
 use Rattle.base.specs.Lists.{part, all, joined}
 use Rattle.record.specs.Number.{little_endian, number_in}
@@ -50,12 +48,12 @@ whole s = leb head_length (length s) && leb head_length (length_at s) && leb (le
 
 -- The records that fill the bytes exactly, after so many bytes that belong to a record read before; none: damaged.
 unfoldable pub cut_after : List ℕ → ℕ → Option (List Rec)
-cut_after [] zero = some []
-cut_after [] (suc n) = none
+cut_after [] zero = Some []
+cut_after [] (suc n) = None
 cut_after (b ∷ bs) (suc n) = cut_after bs n
 cut_after (b ∷ bs) zero =
-    let later : Option (List Rec) = Option.map (λ rs. record_at (b ∷ bs) ∷ rs) (cut_after bs (length_at (b ∷ bs) - 1)) in
-    pick (whole (b ∷ bs)) later none
+    let later : Option (List Rec) = option_map (λ rs. record_at (b ∷ bs) ∷ rs) (cut_after bs (length_at (b ∷ bs) - 1)) in
+    pick (whole (b ∷ bs)) later None
 
 -- the records of a whole list of bytes; none: damaged
 abbrev pub cut : List ℕ → Option (List Rec)
@@ -63,17 +61,17 @@ cut s = cut_after s 0
 
 -- the bodies of records that all have one kind; none: damaged
 unfoldable pub bodies_of : ℕ → List Rec → Option (List (List ℕ))
-bodies_of kind rs = pick (all (λ r. eqb r.kind kind) rs) (some (map (λ r. r.body) rs)) none
+bodies_of kind rs = pick (all (λ r. eqb r.kind kind) rs) (Some (map (λ r. r.body) rs)) None
 
 -- a lent list of records of one kind and at most so many bytes: its bodies; none: damaged
 unfoldable pub read_list : ℕ → ℕ → List ℕ → Option (List (List ℕ))
-read_list kind most s = pick (leb (length s) most) (maybe (cut s) none (bodies_of kind)) none
+read_list kind most s = pick (leb (length s) most) (maybe (cut s) None (bodies_of kind)) None
 
 -- what each of some records holds; none: one cannot be read
 unfoldable pub read_each : {A : Type 0} → (Rec → Option A) → List Rec → Option (List A)
-read_each read [] = some []
-read_each read (r ∷ rs) = maybe (read r) none (λ a. Option.map (λ xs. a ∷ xs) (read_each read rs))
+read_each read [] = Some []
+read_each read (r ∷ rs) = maybe (read r) None (λ a. option_map (λ xs. a ∷ xs) (read_each read rs))
 
 -- the same of the records that fill the bytes; none: damaged
 unfoldable pub read_records : {A : Type 0} → (Rec → Option A) → List ℕ → Option (List A)
-read_records read s = maybe (cut s) none (read_each read)
+read_records read s = maybe (cut s) None (read_each read)

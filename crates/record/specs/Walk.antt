@@ -1,6 +1,5 @@
 -- What the functions of this crate answer, by the definitions of records. Assumes nothing.
-use Rattle.std.specs.Prelude.{ℕ, zero, suc, ◌+◌, List, [], ◌∷◌, length, drop}
-use Rattle.std.proofs.Math.Option.{Option, none}
+use Rattle.std.specs.Prelude.{ℕ, zero, suc, ◌+◌, List, [], ◌∷◌, length, drop, Option, None}
 use Rattle.base.specs.Choice.{pick, maybe}
 use Rattle.record.specs.Record.{Rec, head_length, record_length, length_at, record_at, whole, cut, read_list}
 use Rattle.record.specs.declared.Front.{Front}
@@ -16,7 +15,7 @@ front_at s at = pick (whole (drop at s)) (front.Record (record_at (drop at s)).k
 
 -- what the record at a place holds; none: damaged
 unfoldable pub read_at : {A : Type 0} → (Rec → Option A) → List ℕ → ℕ → Option A
-read_at read s at = pick (whole (drop at s)) (read (record_at (drop at s))) none
+read_at read s at = pick (whole (drop at s)) (read (record_at (drop at s))) None
 
 -- how many records of a kind fill the bytes, of which there are at most so many
 unfoldable pub count_of : ℕ → ℕ → List ℕ → Filled

@@ -1,8 +1,8 @@
 -- The fields of a record's body, one after another. Assumes nothing.
+use Rattle.std.specs.Prelude.{Option, Some, None}
 use mathlib.Core.Path.{◌≡◌, ◌∙◌}
 use Prim.Native.Nat.{ℕ, ◌+◌, ◌-◌, ◌≤◌, ◌<◌}
 use native.Mathlib.Omega.{arith}
-use mathlib.Core.Option.{Option, none, some}
 use mathlib.Core.List.{List}
 use lib.ListN.{length, drop, length-drop}
 use lib.Seq.{drop-drop}
@@ -22,20 +22,20 @@ module _ {A : Type 0} (s : List ℕ) (at : ℕ) (next : List ℕ → List ℕ �
       rw (le-leb n (length (drop at s)) (simp length-drop (omega arith)), h.0, k, ← drop-drop 4 at s, ← drop-drop n at s)
 
   -- one that is not whole
-  field-short : Ends s at Short → at ≤ length s → field (drop at s) next ≡ none
+  field-short : Ends s at Short → at ≤ length s → field (drop at s) next ≡ None
   unfolding field
   field-short h k = rw (lt-leb (field_end (drop at s)) (length (drop at s)) (simp length-drop (omega arith)))
 
 module _ {A : Type 0} (s : List ℕ) (a : A) (e : ℕ) where
   -- the last field ends with the body, or bytes follow it
-  ending_there : length s ≤ e → ending (drop e s) a ≡ some a
+  ending_there : length s ≤ e → ending (drop e s) a ≡ Some a
   ending_there h = rw (eq-eqb (length (drop e s)) 0 (simp length-drop (omega arith)))
 
-  ending-not : e < length s → ending (drop e s) a ≡ none
+  ending-not : e < length s → ending (drop e s) a ≡ None
   ending-not h = rw (ne_eqb (length (drop e s)) 0 (λ z. absurd (omega (arith, length-drop e s))))
 
 module _ (kind : ℕ) (s : List ℕ) where
-  pub group-short : Ends s 0 Short → read_request (record { kind = kind; body = s }) ≡ none
+  pub group-short : Ends s 0 Short → read_request (record { kind = kind; body = s }) ≡ None
   unfolding read_request
   group-short h = field-short s 0 (λ group t. field t (λ key u. asked_by kind group key u)) h (omega arith)
 
@@ -44,7 +44,7 @@ module _ (kind : ℕ) (s : List ℕ) where
     unfolding read_request
     behind-group = field-whole s 0 (λ group t. field t (λ key u. asked_by kind group key u)) g h
 
-    pub key-short : Ends s g Short → read_request (record { kind = kind; body = s }) ≡ none
+    pub key-short : Ends s g Short → read_request (record { kind = kind; body = s }) ≡ None
     key-short i = behind-group ∙ field-short s g (λ key u. asked_by kind (part 4 g s) key u) i h.1
 
     module _ {k : ℕ} (i : Ends s g (End k)) where
@@ -52,34 +52,34 @@ module _ (kind : ℕ) (s : List ℕ) where
       behind-key = behind-group ∙ field-whole s g (λ key u. asked_by kind (part 4 g s) key u) k i
 
       -- of kind 6
-      pub two-more : kind ≡ 6 → k < length s → read_request (record { kind = kind; body = s }) ≡ none
+      pub two-more : kind ≡ 6 → k < length s → read_request (record { kind = kind; body = s }) ≡ None
       two-more e l = behind-key ∙ rw (eq-eqb kind 6 e) (ending-not s _ k l)
 
-      pub two : kind ≡ 6 → length s ≤ k → read_request (record { kind = kind; body = s }) ≡ some (record { group = part 4 g s; key = part (g + 4) (length s) s; text = none })
+      pub two : kind ≡ 6 → length s ≤ k → read_request (record { kind = kind; body = s }) ≡ Some (record { group = part 4 g s; key = part (g + 4) (length s) s; text = None })
       two e l = let z : k ≡ length s = omega (arith, i.1) in behind-key ∙ rw (eq-eqb kind 6 e) (ending_there s _ k l ∙ rw z)
 
       -- of another kind
-      pub no_kind : (kind ≡ 6 → ⊥) → (kind ≡ 5 → ⊥) → read_request (record { kind = kind; body = s }) ≡ none
+      pub no_kind : (kind ≡ 6 → ⊥) → (kind ≡ 5 → ⊥) → read_request (record { kind = kind; body = s }) ≡ None
       no_kind e f = behind-key ∙ rw (ne_eqb kind 6 e, ne_eqb kind 5 f)
 
       -- of kind 5
       module _ (f : kind ≡ 5) where
         abbrev with-text : Option Asked
-        with-text = field (drop k s) (λ text t. ending t (record { group = part 4 g s; key = part (g + 4) k s; text = some text }))
+        with-text = field (drop k s) (λ text t. ending t (record { group = part 4 g s; key = part (g + 4) k s; text = Some text }))
 
         three-is : read_request (record { kind = kind; body = s }) ≡ with-text
         three-is = behind-key ∙ rw (ne_eqb kind 6 (λ z. absurd (omega arith)), eq-eqb kind 5 f)
 
-        pub text-short : Ends s k Short → read_request (record { kind = kind; body = s }) ≡ none
-        text-short j = three-is ∙ field-short s k (λ text t. ending t (record { group = part 4 g s; key = part (g + 4) k s; text = some text })) j i.1
+        pub text-short : Ends s k Short → read_request (record { kind = kind; body = s }) ≡ None
+        text-short j = three-is ∙ field-short s k (λ text t. ending t (record { group = part 4 g s; key = part (g + 4) k s; text = Some text })) j i.1
 
         module _ {e : ℕ} (j : Ends s k (End e)) where
-          behind-text : with-text ≡ ending (drop e s) (record { group = part 4 g s; key = part (g + 4) k s; text = some (part (k + 4) e s) })
-          behind-text = field-whole s k (λ text t. ending t (record { group = part 4 g s; key = part (g + 4) k s; text = some text })) e j
+          behind-text : with-text ≡ ending (drop e s) (record { group = part 4 g s; key = part (g + 4) k s; text = Some (part (k + 4) e s) })
+          behind-text = field-whole s k (λ text t. ending t (record { group = part 4 g s; key = part (g + 4) k s; text = Some text })) e j
 
-          pub three-more : e < length s → read_request (record { kind = kind; body = s }) ≡ none
+          pub three-more : e < length s → read_request (record { kind = kind; body = s }) ≡ None
           three-more l = three-is ∙ behind-text ∙ ending-not s _ e l
 
           pub three : length s ≤ e
-              → read_request (record { kind = kind; body = s }) ≡ some (record { group = part 4 g s; key = part (g + 4) k s; text = some (part (k + 4) (length s) s) })
+              → read_request (record { kind = kind; body = s }) ≡ Some (record { group = part 4 g s; key = part (g + 4) k s; text = Some (part (k + 4) (length s) s) })
           three l = let z : e ≡ length s = omega (arith, j.1) in three-is ∙ behind-text ∙ ending_there s _ e l ∙ rw z

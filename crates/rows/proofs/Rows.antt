@@ -1,9 +1,9 @@
 -- Rows of a file: what they are, that they read back, and the row that a question finds. Assumes nothing.
+use Rattle.std.specs.Prelude.{Option, Some, None}
 use mathlib.Core.Path.{◌≡◌, refl, sym, ap, ◌∙◌}
 use Prim.Native.Nat.{ℕ, suc, ◌+◌, ◌<◌}
 use native.Mathlib.Omega.{arith}
 use mathlib.Core.Bool.{Bool, true, false}
-use mathlib.Core.Option.{Option, none, some}
 use mathlib.Core.List.{List, [], ◌∷◌, ◌++◌, append_assoc, append-nil}
 use lib.ListN.{length, drop, length-append}
 use lib.Dec.{eqb}
@@ -210,7 +210,7 @@ module _ (p : Row → Bool) where
         passes = f.passes;
       }
 
-  pub found_first : (rs : List (List ℕ)) (n at : ℕ) (g : List ℕ) (r : Row) → first p (rows_from n at g rs) ≡ some r → Found p at g rs r
+  pub found_first : (rs : List (List ℕ)) (n at : ℕ) (g : List ℕ) (r : Row) → first p (rows_from n at g rs) ≡ Some r → Found p at g rs r
   unfolding first rows_from
   found_first [] n at g r e = no (cc)
   found_first (x ∷ rs) n at g r e = by (p (row_of n at g x)) refl e (found_first rs (suc n) (at + length x) (group_after g (line_of x) (read_line (line_of x))) r)
@@ -218,19 +218,19 @@ module _ (p : Row → Bool) where
       rest : Option Row
       rest = first p (rows_from (suc n) (at + length x) (group_after g (line_of x) (read_line (line_of x))) rs)
 
-      by : (t : Bool) → p (row_of n at g x) ≡ t → pick t (some (row_of n at g x)) rest ≡ some r
-          → (rest ≡ some r → Found p (at + length x) (group_after g (line_of x) (read_line (line_of x))) rs r) → Found p at g (x ∷ rs) r
+      by : (t : Bool) → p (row_of n at g x) ≡ t → pick t (Some (row_of n at g x)) rest ≡ Some r
+          → (rest ≡ Some r → Found p (at + length x) (group_after g (line_of x) (read_line (line_of x))) rs r) → Found p at g (x ∷ rs) r
       by true t e k = here n at g x rs r t (cc)
       by false t e k = there-after at g x rs r (k e)
 
-  pub found-last : (rs : List (List ℕ)) (n at : ℕ) (g : List ℕ) (r : Row) → last p (rows_from n at g rs) ≡ some r → Found p at g rs r
+  pub found-last : (rs : List (List ℕ)) (n at : ℕ) (g : List ℕ) (r : Row) → last p (rows_from n at g rs) ≡ Some r → Found p at g rs r
   unfolding last rows_from
   found-last [] n at g r e = no (cc)
   found-last (x ∷ rs) n at g r e =
       by (last p (rows_from (suc n) (at + length x) (group_after g (line_of x) (read_line (line_of x))) rs)) (p (row_of n at g x)) refl e (found-last rs (suc n) (at + length x) (group_after g (line_of x) (read_line (line_of x))))
     where
-      by : (o : Option Row) (t : Bool) → p (row_of n at g x) ≡ t → maybe o (pick t (some (row_of n at g x)) none) some ≡ some r
-          → ((s : Row) → o ≡ some s → Found p (at + length x) (group_after g (line_of x) (read_line (line_of x))) rs s) → Found p at g (x ∷ rs) r
-      by none true t e k = here n at g x rs r t (cc)
-      by none false t e k = no (cc)
-      by (some s) t u e k = there-after at g x rs r (k r e)
+      by : (o : Option Row) (t : Bool) → p (row_of n at g x) ≡ t → maybe o (pick t (Some (row_of n at g x)) None) Some ≡ Some r
+          → ((s : Row) → o ≡ Some s → Found p (at + length x) (group_after g (line_of x) (read_line (line_of x))) rs s) → Found p at g (x ∷ rs) r
+      by None true t e k = here n at g x rs r t (cc)
+      by None false t e k = no (cc)
+      by (Some s) t u e k = there-after at g x rs r (k r e)

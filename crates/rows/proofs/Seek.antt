@@ -1,10 +1,10 @@
 -- The walk through the rows of a file without bad lines: what is asked of the rows from a place on. Assumes nothing.
+use Rattle.std.specs.Prelude.{Some}
 use mathlib.Core.Path.{◌≡◌, refl, sym, ◌∙◌}
 use Prim.Native.Nat.{ℕ, ◌+◌, ◌-◌, ◌≤◌, ◌<◌}
 use native.Mathlib.Nat.{add-zero}
 use native.Mathlib.Omega.{arith}
 use mathlib.Core.Bool.{Bool, true, false, ◌&&◌}
-use mathlib.Core.Option.{some}
 use mathlib.Core.List.{List, [], ◌∷◌}
 use lib.ListN.{length, drop}
 use lib.Dec.{eqb, eqb-suc-zero}
@@ -70,7 +70,7 @@ module _ {s : List ℕ} {f : List Row → Found} {a : Found} {p n : ℕ} (w : Se
   seek-header b = header-good (part p e s) (sym b) seek-good
 
   -- what is told of the row
-  pub seek-told : found_of (some (row_at s n p e w.group)) ≡ found.Row n p e (p + value_start (read_line (part p e s)))
+  pub seek-told : found_of (Some (row_at s n p e w.group)) ≡ found.Row n p e (p + value_start (read_line (part p e s)))
   seek-told =
       let z : p + length (part p e s) ≡ e = omega (arith, length-line s h q, start-le s h q) in
       rw (line_at s h q, z)

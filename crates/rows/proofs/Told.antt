@@ -1,10 +1,10 @@
 -- What is told of a row that was found: it stands in the file between the places told. Assumes nothing.
+use Rattle.std.specs.Prelude.{Option, Some, None}
 use mathlib.Core.Path.{◌≡◌, refl, sym, ap, ◌∙◌}
 use Prim.Native.Nat.{ℕ, ◌+◌, ◌-◌, ◌≤◌}
 use native.Mathlib.Nat.{add-zero}
 use native.Mathlib.Omega.{arith}
 use mathlib.Core.Bool.{Bool}
-use mathlib.Core.Option.{Option, none, some}
 use mathlib.Core.List.{List, [], ◌∷◌, ◌++◌, append_assoc}
 use lib.ListN.{length, take, drop, length-append, length-drop}
 use lib.Seq.{take_at, drop_at, drop-drop, drop-append-le}
@@ -28,21 +28,21 @@ pub record Told (r : Row) (n p e v : ℕ) : Type 0 where
   pub end_is : e ≡ r.start + length (line_of r.bytes)
   pub value-is : v ≡ r.start + value_start r.reading
 
-pub told-row : (o : Option Row) (n p e v : ℕ) → found_of o ≡ told.Row n p e v → (r : Row) × (o ≡ some r) × Told r n p e v
-told-row none n p e v i = no (cc)
-told-row (some r) n p e v i = (r, refl, record { line-is = cc; start_is = cc; end_is = cc; value-is = cc })
+pub told-row : (o : Option Row) (n p e v : ℕ) → found_of o ≡ told.Row n p e v → (r : Row) × (o ≡ Some r) × Told r n p e v
+told-row None n p e v i = no (cc)
+told-row (Some r) n p e v i = (r, refl, record { line-is = cc; start_is = cc; end_is = cc; value-is = cc })
 
-pub told-nothing : (o : Option Row) → found_of o ≡ told.Nothing → o ≡ none
-told-nothing none i = refl
-told-nothing (some r) i = no (cc)
+pub told-nothing : (o : Option Row) → found_of o ≡ told.Nothing → o ≡ None
+told-nothing None i = refl
+told-nothing (Some r) i = no (cc)
 
 -- ---- the row in the file
 
-pub found-by : (f : List ℕ) (p : Row → Bool) (r : Row) → first p (read_rows f) ≡ some r → Found p 0 [] (rows f) r
+pub found-by : (f : List ℕ) (p : Row → Bool) (r : Row) → first p (read_rows f) ≡ Some r → Found p 0 [] (rows f) r
 unfolding read_rows
 found-by f p r e = found_first p (rows f) 1 0 [] r e
 
-pub found-row : (f : List ℕ) (t : Title) (r : Row) → find_row (read_rows f) t ≡ some r → Found (λ r. same_title t (title r)) 0 [] (rows f) r
+pub found-row : (f : List ℕ) (t : Title) (r : Row) → find_row (read_rows f) t ≡ Some r → Found (λ r. same_title t (title r)) 0 [] (rows f) r
 unfolding find_row
 found-row f t r e = found-by f (λ r. same_title t (title r)) r e
 

@@ -1,7 +1,6 @@
 -- What the functions of this crate answer, by the definitions of rows. Assumes nothing.
-use Rattle.std.specs.Prelude.{ℕ, suc, ◌+◌, Bool, false, not, List, [], ◌∷◌, length, take, eqb}
+use Rattle.std.specs.Prelude.{ℕ, suc, ◌+◌, Bool, false, not, List, [], ◌∷◌, length, take, eqb, Option}
 use Prim.Native.Char.{code}
-use Rattle.std.proofs.Math.Option.{Option}
 use Rattle.base.specs.Choice.{pick, maybe}
 use Rattle.base.specs.Lists.{same, part, any}
 use Rattle.line.specs.declared.Named.{Named}

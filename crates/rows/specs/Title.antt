@@ -1,7 +1,6 @@
 -- What a row names: a group, or a key with its postfix in a group. "No group twice", "no key twice in its group" and lookup are one notion.
 -- Assumes nothing.
-use Rattle.std.specs.Prelude.{ℕ, Bool, false, ◌&&◌, List, [], ◌∷◌, take}
-use Rattle.std.proofs.Math.Option.{Option}
+use Rattle.std.specs.Prelude.{ℕ, Bool, false, ◌&&◌, List, [], ◌∷◌, take, Option}
 use Rattle.base.specs.Choice.{there}
 use Rattle.base.specs.Lists.{ascii, same, first}
 use Rattle.line.specs.declared.Line.{Line}

@@ -1,9 +1,9 @@
 -- The lengths of lists of records, by the bodies and by the bytes. Assumes nothing.
+use Rattle.std.specs.Prelude.{Option, Some, None, option_map}
 use mathlib.Core.Path.{◌≡◌, refl, ap}
 use Prim.Native.Nat.{ℕ, ◌+◌, ◌-◌, ◌≤◌}
 use native.Mathlib.Omega.{arith}
 use mathlib.Core.Bool.{Bool, true, false}
-use mathlib.Core.Option.{Option, none, some, map}
 use mathlib.Core.List.{List, [], ◌∷◌}
 use lib.ListN.{length, drop, length-append, length-drop}
 use Rattle.base.specs.Bounds.{list_most}
@@ -30,17 +30,17 @@ length-one kind b = rw (length-cons kind b [], list-none kind) (omega arith)
 
 -- ---- by the bytes
 
-cut-empty : (s : List ℕ) → cut s ≡ some [] → s ≡ []
+cut-empty : (s : List ℕ) → cut s ≡ Some [] → s ≡ []
 unfolding cut_after
 cut-empty [] e = refl
 cut-empty (b ∷ s) e = go (whole (b ∷ s)) (cut_after s (length_at (b ∷ s) - 1)) e
   where
-    go : (t : Bool) (o : Option (List Rec)) → pick t (map (λ rs. record_at (b ∷ s) ∷ rs) o) none ≡ some [] → b ∷ s ≡ []
+    go : (t : Bool) (o : Option (List Rec)) → pick t (option_map (λ rs. record_at (b ∷ s) ∷ rs) o) None ≡ Some [] → b ∷ s ≡ []
     go false o e = no (cc)
-    go true none e = no (cc)
-    go true (some rs) e = no (cc)
+    go true None e = no (cc)
+    go true (Some rs) e = no (cc)
 
-cut-length : (s : List ℕ) (at : ℕ) (rs : List Rec) → at ≤ length s → cut (drop at s) ≡ some rs → length s ≡ at + list_length rs
+cut-length : (s : List ℕ) (at : ℕ) (rs : List Rec) → at ≤ length s → cut (drop at s) ≡ Some rs → length s ≡ at + list_length rs
 unfolding list_length
 cut-length s at [] h e = omega (arith, ap length (cut-empty (drop at s) e), length-drop at s)
 cut-length s at (r ∷ rs) h e =
@@ -59,7 +59,7 @@ unfolding list_of
 items-length kind list = go (read_list 2 list_most list) refl
   where
     go : (o : Option (List (List ℕ))) → read_list 2 list_most list ≡ o → there o ≡ true → length (list_of kind (maybe o [] (λ items. items))) ≡ length list
-    go none e h = no (cc)
-    go (some bs) e h =
+    go None e h = no (cc)
+    go (Some bs) e h =
         let l = list-sound 2 list_most list e in
         rw (l.bodies_are, length-list (records_of kind (bodies_in l.records)), other-kind kind l.records) (omega (arith, cut-length list 0 l.records (omega arith) l.cuts))

@@ -1,10 +1,10 @@
 -- What writes one behind another leave, and an output that is filled by the items of a list and by words. Assumes nothing.
+use Rattle.std.specs.Prelude.{Option, Some, None, option_map}
 use mathlib.Core.Path.{◌≡◌, refl, sym, ap, ◌∙◌}
 use Prim.Native.Nat.{ℕ, ◌+◌, ◌-◌, ◌≤◌, ◌<◌}
 use native.Mathlib.Nat.{zero-add}
 use native.Mathlib.Omega.{arith}
 use mathlib.Core.Bool.{true, false}
-use mathlib.Core.Option.{Option, none, some, map}
 use mathlib.Core.List.{List, [], ◌∷◌, ◌++◌, append-nil, append_assoc}
 use lib.ListN.{length, drop, get_or, length-append}
 use lib.Seq.{take_at, drop_at, drop-drop}
@@ -87,8 +87,8 @@ list-reads : (list : List ℕ) → there (read_list 2 list_most list) ≡ true �
 list-reads list = go (read_list 2 list_most list) refl
   where
     go : (o : Option (List (List ℕ))) → read_list 2 list_most list ≡ o → there o ≡ true → read_list 2 list_most list ≡ bodies 2 list
-    go none e h = no (cc)
-    go (some bs) e h = list-within 2 list_most list (list-sound 2 list_most list e).short
+    go None e h = no (cc)
+    go (Some bs) e h = list-within 2 list_most list (list-sound 2 list_most list e).short
 
 pub items-start : (list : List ℕ) → there (read_list 2 list_most list) ≡ true → Items list 0 × (items_in list ≡ items_at list 0)
 items-start list h =
@@ -102,17 +102,17 @@ pub items-damaged {ℓ} : {X : Type ℓ} {list : List ℕ} {from : ℕ} → Item
 items-damaged {list = list} {from = from} w h e = let z = w.sound in let f = bodies-damaged-at 2 list from h e in no (cc)
 
 module _ {list : List ℕ} {from : ℕ} (w : Items list from) {k end : ℕ} (r : Stands list from k end) where
-  step : bodies 2 (drop from list) ≡ map (λ bs. part (from + 6) end list ∷ bs) (bodies 2 (drop end list))
+  step : bodies 2 (drop from list) ≡ option_map (λ bs. part (from + 6) end list ∷ bs) (bodies 2 (drop end list))
   step =
       by-test (eqb k 2)
       (λ e. bodies-at 2 r (eqb-true k 2 e))
       (λ e. let z = w.sound in let f = bodies-other-at 2 r (eqb-false k 2 e) in no (cc))
 
-  both : (o : Option (List (List ℕ))) (b : List ℕ) → there (map (λ bs. b ∷ bs) o) ≡ true → (there o ≡ true) × (listed (map (λ bs. b ∷ bs) o) ≡ b ∷ listed o)
-  both none b h = no (cc)
-  both (some bs) b h = (refl, refl)
+  both : (o : Option (List (List ℕ))) (b : List ℕ) → there (option_map (λ bs. b ∷ bs) o) ≡ true → (there o ≡ true) × (listed (option_map (λ bs. b ∷ bs) o) ≡ b ∷ listed o)
+  both None b h = no (cc)
+  both (Some bs) b h = (refl, refl)
 
-  next : (there (bodies 2 (drop end list)) ≡ true) × (listed (map (λ bs. part (from + 6) end list ∷ bs) (bodies 2 (drop end list))) ≡ part (from + 6) end list ∷ items_at list end)
+  next : (there (bodies 2 (drop end list)) ≡ true) × (listed (option_map (λ bs. part (from + 6) end list ∷ bs) (bodies 2 (drop end list))) ≡ part (from + 6) end list ∷ items_at list end)
   next = both (bodies 2 (drop end list)) (part (from + 6) end list) (rw step at w.sound)
 
   pub items-next : Items list end

@@ -4,10 +4,9 @@
 mod measure; // measure.rt: how much room the records take
 mod write; // write.rt: the records
 
-ghost use Rattle.std.specs.Prelude.{◌≡◌, true, ◌≤◌, length};
+ghost use Rattle.std.specs.Prelude.{◌≡◌, true, ◌≤◌, length, Ok};
 ghost use Rattle.base.specs.Bounds.{file_most, list_most};
 ghost use Rattle.base.specs.Choice.{there};
-ghost use Rattle.fault.specs.Answer.{given};
 ghost use Rattle.record.specs.Record.{read_list, list_of};
 ghost use Rattle.text.specs.Output.{answered, written_length, held};
 ghost use Rattle.command.specs.Command.{arguments_in};
@@ -28,10 +27,10 @@ pub fn write_run(
     out: &mut [u8],
 ) -> Written
     requires { (length exec.now ≤ file_most) × (there (read_list 2 list_most list.now) ≡ true) }
-    ensures answer { answered result ≡ written_length (given (list_of 3 (run.expanded_all
+    ensures answer { answered result ≡ written_length (Ok (list_of 3 (run.expanded_all
         (run.run_of (spec.put_of item.now name.now location.now) (spec.items_in list.now) icon.now)
         (arguments_in exec.now)))) out.old }
-    ensures output { out.new ≡ held (given (list_of 3 (run.expanded_all
+    ensures output { out.new ≡ held (Ok (list_of 3 (run.expanded_all
         (run.run_of (spec.put_of item.now name.now location.now) (spec.items_in list.now) icon.now)
         (arguments_in exec.now)))) out.old }
 {

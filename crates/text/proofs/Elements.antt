@@ -1,9 +1,9 @@
 -- The elements of a raw value, one after another, as the loops take them. Assumes nothing.
+use Rattle.std.specs.Prelude.{Option, Some, None, Ok, Err}
 use mathlib.Core.Path.{◌≡◌, refl, sym, ap, ◌∙◌}
 use Prim.Native.Nat.{ℕ, suc, ◌+◌, ◌-◌, ◌≤◌, ◌<◌}
 use native.Mathlib.Omega.{arith}
 use mathlib.Core.Bool.{Bool, true, false, false≢true}
-use mathlib.Core.Option.{Option, none, some}
 use mathlib.Core.List.{List, [], ◌∷◌, ◌++◌}
 use lib.ListN.{length, take, drop, length-append, length-drop}
 use lib.Seq.{drop-drop, length-take-le}
@@ -18,7 +18,7 @@ use Rattle.base.proofs.Fill.{Fill, fill_start, fill-length, fill-as, fill-over, 
 use Rattle.characters.specs.Bare.{bare_length}
 use Rattle.fault.specs.declared.Fault.{Fault}
 use Rattle.fault.specs.declared.Fault.TheVariants.{BadEscape, NoRoom}
-use Rattle.fault.specs.Answer.{Answer, given, refused, ◌>>=◌, need, then, accepted}
+use Rattle.fault.specs.Answer.{Answer, ◌>>=◌, need, then, accepted}
 use Rattle.fault.proofs.Answers.{then-refused, bind-then}
 use Rattle.record.specs.Record.{record_length, record_bytes, list_bytes, list_of}
 use Rattle.record.proofs.Sizes.{length-record, list-of-cons}
@@ -39,17 +39,17 @@ extent true s = suc (length s)
 extent false s = length s
 
 abbrev Everywhere : Escapes → List ℕ → Bool → ℕ → Answer (List ℕ) → Type 0
-Everywhere k s f at (given t) = (m : ℕ) → text_from k s f m ≡ given t
-Everywhere k s f at (refused g) = (p : ℕ) × (g ≡ BadEscape (at + p)) × ((m : ℕ) → text_from k s f m ≡ refused (BadEscape (m + p))) × (p ≤ extent f s)
+Everywhere k s f at (Ok t) = (m : ℕ) → text_from k s f m ≡ Ok t
+Everywhere k s f at (Err g) = (p : ℕ) × (g ≡ BadEscape (at + p)) × ((m : ℕ) → text_from k s f m ≡ Err (BadEscape (m + p))) × (p ≤ extent f s)
 
 -- w raw bytes before s stand for the byte x
 before-all : (k : Escapes) (s r : List ℕ) (f : Bool) (x w at : ℕ) → ((m : ℕ) → text_from k r f m ≡ then (λ t. x ∷ t) (text_from k s false (m + w))) → w + length s ≤ extent f r
     → (a : Answer (List ℕ)) → Everywhere k s false (at + w) a → Everywhere k r f at (then (λ t. x ∷ t) a)
-before-all k s r f x w at h l (given t) e = λ m. h m ∙ ap (then (λ u. x ∷ u)) (e (m + w))
-before-all k s r f x w at h l (refused g) (p, i, e, b) =
+before-all k s r f x w at h l (Ok t) e = λ m. h m ∙ ap (then (λ u. x ∷ u)) (e (m + w))
+before-all k s r f x w at h l (Err g) (p, i, e, b) =
     (w + p, i ∙ ap BadEscape (omega arith), λ m. let q : m + w + p ≡ m + (w + p) = omega arith in h m ∙ ap (then (λ u. x ∷ u)) (e (m + w)) ∙ rw q, omega arith)
 
-wrong-all : (k : Escapes) (s : List ℕ) (f : Bool) (at : ℕ) → ((m : ℕ) → text_from k s f m ≡ refused (BadEscape m)) → Everywhere k s f at (refused (BadEscape at))
+wrong-all : (k : Escapes) (s : List ℕ) (f : Bool) (at : ℕ) → ((m : ℕ) → text_from k s f m ≡ Err (BadEscape m)) → Everywhere k s f at (Err (BadEscape at))
 wrong-all k s f at h = (0, ap BadEscape (omega arith), λ m. let q : m + 0 ≡ m = omega arith in h m ∙ rw q, omega arith)
 
 everywhere : (k : Escapes) (s : List ℕ) (f : Bool) (at : ℕ) → Everywhere k s f at (text_from k s f at)
@@ -59,14 +59,14 @@ everywhere k [] true at = wrong-all k [] true at (λ m. refl)
 everywhere k (b ∷ bs) true at = go (escape k b) refl (everywhere k bs false (at + 2))
   where
     go : (o : Option ℕ) → escape k b ≡ o → Everywhere k bs false (at + 2) (text_from k bs false (at + 2))
-        → Everywhere k (b ∷ bs) true at (maybe o (refused (BadEscape at)) (λ x. then (λ t. x ∷ t) (text_from k bs false (at + 2))))
-    go none q ih = wrong-all k (b ∷ bs) true at (λ m. rw q)
-    go (some x) q ih = before-all k bs (b ∷ bs) true x 2 at (λ m. rw q) (omega arith) (text_from k bs false (at + 2)) ih
+        → Everywhere k (b ∷ bs) true at (maybe o (Err (BadEscape at)) (λ x. then (λ t. x ∷ t) (text_from k bs false (at + 2))))
+    go None q ih = wrong-all k (b ∷ bs) true at (λ m. rw q)
+    go (Some x) q ih = before-all k bs (b ∷ bs) true x 2 at (λ m. rw q) (omega arith) (text_from k bs false (at + 2)) ih
 everywhere k (b ∷ bs) false at = go (eqb b 92) refl (everywhere k bs true at) (everywhere k bs false (at + 1))
   where
     same-all : (a : Answer (List ℕ)) → eqb b 92 ≡ true → Everywhere k bs true at a → Everywhere k (b ∷ bs) false at a
-    same-all (given t) q e = λ m. rw q (e m)
-    same-all (refused g) q (p, i, e, l) = (p, i, λ m. rw q (e m), l)
+    same-all (Ok t) q e = λ m. rw q (e m)
+    same-all (Err g) q (p, i, e, l) = (p, i, λ m. rw q (e m), l)
 
     go : (t : Bool) → eqb b 92 ≡ t → Everywhere k bs true at (text_from k bs true at) → Everywhere k bs false (at + 1) (text_from k bs false (at + 1))
         → Everywhere k (b ∷ bs) false at (pick t (text_from k bs true at) (then (λ u. b ∷ u) (text_from k bs false (at + 1))))
@@ -74,26 +74,26 @@ everywhere k (b ∷ bs) false at = go (eqb b 92) refl (everywhere k bs true at) 
     go false q pair single = before-all k bs (b ∷ bs) false b 1 at (λ m. rw q) (omega arith) (text_from k bs false (at + 1)) single
 
 module _ (k : Escapes) (s : List ℕ) (at : ℕ) where
-  pub text-anywhere : accepted (text_from k s false 0) ≡ true → text_from k s false at ≡ given (text_of (text_from k s false 0))
+  pub text-anywhere : accepted (text_from k s false 0) ≡ true → text_from k s false at ≡ Ok (text_of (text_from k s false 0))
   text-anywhere h = go (text_from k s false 0) h (everywhere k s false 0)
     where
-      go : (a : Answer (List ℕ)) → accepted a ≡ true → Everywhere k s false 0 a → text_from k s false at ≡ given (text_of a)
-      go (given t) h e = e at
-      go (refused g) h e = absurd (false≢true h)
+      go : (a : Answer (List ℕ)) → accepted a ≡ true → Everywhere k s false 0 a → text_from k s false at ≡ Ok (text_of a)
+      go (Ok t) h e = e at
+      go (Err g) h e = absurd (false≢true h)
 
-  pub wrong-anywhere : {p : ℕ} → text_from k s false 0 ≡ refused (BadEscape p) → text_from k s false at ≡ refused (BadEscape (at + p))
+  pub wrong-anywhere : {p : ℕ} → text_from k s false 0 ≡ Err (BadEscape p) → text_from k s false at ≡ Err (BadEscape (at + p))
   wrong-anywhere {p} h = go (text_from k s false 0) h (everywhere k s false 0)
     where
-      go : (a : Answer (List ℕ)) → a ≡ refused (BadEscape p) → Everywhere k s false 0 a → text_from k s false at ≡ refused (BadEscape (at + p))
-      go (given t) h e = no (cc)
-      go (refused g) h (q, i, e, l) = let y : p ≡ 0 + q = cc in let z : p ≡ q = omega arith in rw z (e at)
+      go : (a : Answer (List ℕ)) → a ≡ Err (BadEscape p) → Everywhere k s false 0 a → text_from k s false at ≡ Err (BadEscape (at + p))
+      go (Ok t) h e = no (cc)
+      go (Err g) h (q, i, e, l) = let y : p ≡ 0 + q = cc in let z : p ≡ q = omega arith in rw z (e at)
 
-  pub wrong-within : {p : ℕ} → text_from k s false 0 ≡ refused (BadEscape p) → p ≤ length s
+  pub wrong-within : {p : ℕ} → text_from k s false 0 ≡ Err (BadEscape p) → p ≤ length s
   wrong-within {p} h = go (text_from k s false 0) h (everywhere k s false 0)
     where
-      go : (a : Answer (List ℕ)) → a ≡ refused (BadEscape p) → Everywhere k s false 0 a → p ≤ length s
-      go (given t) h e = no (cc)
-      go (refused g) h (q, i, e, l) = let y : p ≡ 0 + q = cc in omega arith
+      go : (a : Answer (List ℕ)) → a ≡ Err (BadEscape p) → Everywhere k s false 0 a → p ≤ length s
+      go (Ok t) h e = no (cc)
+      go (Err g) h (q, i, e, l) = let y : p ≡ 0 + q = cc in omega arith
 
 -- ---- the first raw element, and the others
 
@@ -140,7 +140,7 @@ element-within (b ∷ bs) false = go (eqb b 59) (element-within bs (eqb b 92))
 abbrev pub elements_at : List ℕ → ℕ → Answer (List (List ℕ))
 elements_at raw i = each_read (raw_elements (drop i raw) false) i
 
-pub elements-done : (raw : List ℕ) (i : ℕ) → length raw ≤ i → elements_at raw i ≡ given []
+pub elements-done : (raw : List ℕ) (i : ℕ) → length raw ≤ i → elements_at raw i ≡ Ok []
 unfolding raw_elements each_read
 elements-done raw i h = rw (done raw i h)
 
@@ -172,7 +172,7 @@ module _ (raw : List ℕ) (i : ℕ) {e : ℕ} (h : i < length raw) (q : e ≡ i 
   next : i + length element + 1 ≡ e + 1
   next = omega (arith, long, element-end.0)
 
-  pub element-wrong : {p : ℕ} → own ≡ refused (BadEscape p) → elements_at raw i ≡ refused (BadEscape (i + p))
+  pub element-wrong : {p : ℕ} → own ≡ Err (BadEscape p) → elements_at raw i ≡ Err (BadEscape (i + p))
   unfolding each_read
   element-wrong w = rw (split, wrong-anywhere escapes.List element i w)
 
@@ -184,8 +184,8 @@ module _ (raw : List ℕ) (i : ℕ) {e : ℕ} (h : i < length raw) (q : e ≡ i 
 
 spend-cons : (room : Left) (t : List ℕ) (a : Answer (List (List ℕ))) → then (spend_all room) (then (λ ts. t ∷ ts) a) ≡ then (spend_all (spend_record room (length t))) a
 unfolding spend_all
-spend-cons room t (given ts) = refl
-spend-cons room t (refused f) = refl
+spend-cons room t (Ok ts) = refl
+spend-cons room t (Err f) = refl
 
 pub record RoomLeft (raw : List ℕ) (room i : ℕ) (rest : Left) : Type 0 where
   pub goes : then (spend_all rest) (elements_at raw i) ≡ then (spend_all (left.Bytes room)) (elements_of raw)
@@ -195,21 +195,21 @@ unfolding elements_of
 room-start raw room = record { goes = refl }
 
 module _ {raw : List ℕ} {room i : ℕ} {rest : Left} (s : RoomLeft raw room i rest) where
-  pub room-end : length raw ≤ i → given rest ≡ then (spend_all (left.Bytes room)) (elements_of raw)
+  pub room-end : length raw ≤ i → Ok rest ≡ then (spend_all (left.Bytes room)) (elements_of raw)
   unfolding spend_all
   room-end h = rw (elements-done raw i h) at s.goes
 
   module _ {e : ℕ} (h : i < length raw) (q : e ≡ i + element_length (drop i raw) false) where
-    pub room-wrong : {p : ℕ} → refused (BadEscape p) ≡ then length (own raw i h q) → refused (BadEscape (i + p)) ≡ then (spend_all (left.Bytes room)) (elements_of raw)
+    pub room-wrong : {p : ℕ} → Err (BadEscape p) ≡ then length (own raw i h q) → Err (BadEscape (i + p)) ≡ then (spend_all (left.Bytes room)) (elements_of raw)
     room-wrong {p} w = rw (element-wrong raw i h q (then-refused length (own raw i h q) w)) at s.goes
 
     -- its place is inside
-    pub room-place : {p : ℕ} → refused (BadEscape p) ≡ then length (own raw i h q) → i + p ≤ length raw
+    pub room-place : {p : ℕ} → Err (BadEscape p) ≡ then length (own raw i h q) → i + p ≤ length raw
     room-place {p} w =
         let b = wrong-within escapes.List (element raw i h q) 0 (then-refused length (own raw i h q) w) in
         omega (arith, long raw i h q, element-end raw i h q)
 
-    pub room_next : {n : ℕ} {rest' : Left} → given n ≡ then length (own raw i h q) → rest' ≡ spend_record rest n → RoomLeft raw room (e + 1) rest'
+    pub room_next : {n : ℕ} {rest' : Left} → Ok n ≡ then length (own raw i h q) → rest' ≡ spend_record rest n → RoomLeft raw room (e + 1) rest'
     room_next {n} w r =
         let g = given-length (own raw i h q) n w in
         record { goes = rw (r, g.1) (sym (spend-cons rest (text_of (own raw i h q)) (elements_at raw (e + 1))) ∙ rw (element-read raw i h q g.0) at s.goes) }
@@ -263,37 +263,37 @@ enough (e ∷ es) room = go (fits_record e) (leb (record_length e) room) refl re
 -- ---- the whole answer
 
 module _ (raw out : List ℕ) where
-  pub list-refused : {f : Fault} → refused f ≡ then (spend_all (left.Bytes (length out))) (elements_of raw) → Leaves (read_elements raw) out (refused f) out
+  pub list-refused : {f : Fault} → Err f ≡ then (spend_all (left.Bytes (length out))) (elements_of raw) → Leaves (read_elements raw) out (Err f) out
   unfolding read_elements
   list-refused {f} w = go (elements_of raw) w
     where
-      go : (a : Answer (List (List ℕ))) → refused f ≡ then (spend_all (left.Bytes (length out))) a
-          → Leaves (a >>= λ es. need (all fits_record es) NoRoom >>= λ _. given (list_of 2 es)) out (refused f) out
-      go (given es) w = no (cc)
-      go (refused g) w = let z : ◌≡◌ {A = Answer (List ℕ)} (refused g) (refused f) = cc in leaves-refused (refused g) f out z
+      go : (a : Answer (List (List ℕ))) → Err f ≡ then (spend_all (left.Bytes (length out))) a
+          → Leaves (a >>= λ es. need (all fits_record es) NoRoom >>= λ _. Ok (list_of 2 es)) out (Err f) out
+      go (Ok es) w = no (cc)
+      go (Err g) w = let z : ◌≡◌ {A = Answer (List ℕ)} (Err g) (Err f) = cc in leaves-refused (Err g) f out z
 
-  pub list-short : given left.Short ≡ then (spend_all (left.Bytes (length out))) (elements_of raw) → Leaves (read_elements raw) out (refused NoRoom) out
+  pub list-short : Ok left.Short ≡ then (spend_all (left.Bytes (length out))) (elements_of raw) → Leaves (read_elements raw) out (Err NoRoom) out
   unfolding read_elements
   list-short w = go (elements_of raw) w
     where
-      go : (a : Answer (List (List ℕ))) → given left.Short ≡ then (spend_all (left.Bytes (length out))) a
-          → Leaves (a >>= λ es. need (all fits_record es) NoRoom >>= λ _. given (list_of 2 es)) out (refused NoRoom) out
-      go (refused g) w = no (cc)
-      go (given es) w = by (all fits_record es) refl (enough es (length out))
+      go : (a : Answer (List (List ℕ))) → Ok left.Short ≡ then (spend_all (left.Bytes (length out))) a
+          → Leaves (a >>= λ es. need (all fits_record es) NoRoom >>= λ _. Ok (list_of 2 es)) out (Err NoRoom) out
+      go (Err g) w = no (cc)
+      go (Ok es) w = by (all fits_record es) refl (enough es (length out))
         where
           z : spend_all (left.Bytes (length out)) es ≡ left.Short
           z = cc
 
           by : (t : Bool) → all fits_record es ≡ t → Enough (length out) es (spend_all (left.Bytes (length out)) es)
-              → Leaves (need t NoRoom >>= λ _. given (list_of 2 es)) out (refused NoRoom) out
-          by true f n = leaves-full (given (list_of 2 es)) out refl ((rw z at n) f)
-          by false f n = leaves-refused (refused NoRoom) NoRoom out refl
+              → Leaves (need t NoRoom >>= λ _. Ok (list_of 2 es)) out (Err NoRoom) out
+          by true f n = leaves-full (Ok (list_of 2 es)) out refl ((rw z at n) f)
+          by false f n = leaves-refused (Err NoRoom) NoRoom out refl
 
-  module _ {n : ℕ} (w : given (left.Bytes n) ≡ then (spend_all (left.Bytes (length out))) (elements_of raw)) where
-    fits : (a : Answer (List (List ℕ))) → given (left.Bytes n) ≡ then (spend_all (left.Bytes (length out))) a
+  module _ {n : ℕ} (w : Ok (left.Bytes n) ≡ then (spend_all (left.Bytes (length out))) (elements_of raw)) where
+    fits : (a : Answer (List (List ℕ))) → Ok (left.Bytes n) ≡ then (spend_all (left.Bytes (length out))) a
         → (accepted a ≡ true) × (all fits_record (elements_in a) ≡ true) × (length (list_of 2 (elements_in a)) ≤ length out)
-    fits (refused g) w = no (cc)
-    fits (given es) w =
+    fits (Err g) w = no (cc)
+    fits (Ok es) w =
         let z : spend_all (left.Bytes (length out)) es ≡ left.Bytes n = cc in
         let e = rw z at (enough es (length out)) in
         (refl, e.0, e.1)
@@ -303,15 +303,15 @@ module _ (raw out : List ℕ) where
 
     pub list_written : {out' : List ℕ} {r : ℕ}
         → (r ≡ length (list_of 2 (elements_in (elements_of raw)))) × (out' ≡ at_front out (list_of 2 (elements_in (elements_of raw))))
-        → Leaves (read_elements raw) out (given r) out'
+        → Leaves (read_elements raw) out (Ok r) out'
     unfolding read_elements
     list_written {out'} {r} p = go (elements_of raw) (fits (elements_of raw) w) p
       where
         go : (a : Answer (List (List ℕ))) → (accepted a ≡ true) × (all fits_record (elements_in a) ≡ true) × (length (list_of 2 (elements_in a)) ≤ length out)
             → (r ≡ length (list_of 2 (elements_in a))) × (out' ≡ at_front out (list_of 2 (elements_in a)))
-            → Leaves (a >>= λ es. need (all fits_record es) NoRoom >>= λ _. given (list_of 2 es)) out (given r) out'
-        go (refused g) f p = absurd (false≢true f.0)
-        go (given es) f p = rw f.1 (leaves-written (given (list_of 2 es)) out refl f.2 p)
+            → Leaves (a >>= λ es. need (all fits_record es) NoRoom >>= λ _. Ok (list_of 2 es)) out (Ok r) out'
+        go (Err g) f p = absurd (false≢true f.0)
+        go (Ok es) f p = rw f.1 (leaves-written (Ok (list_of 2 es)) out refl f.2 p)
 
 -- ---- writing: what is written and the records of the elements from the place on are the whole
 
@@ -326,8 +326,8 @@ listing_start raw out p = record { sound = p.0; room = p.1; fill = fill_start ou
 
 elements-cons : (t : List ℕ) (a : Answer (List (List ℕ))) → accepted (then (λ ts. t ∷ ts) a) ≡ true
     → (elements_in (then (λ ts. t ∷ ts) a) ≡ t ∷ elements_in a) × (accepted a ≡ true)
-elements-cons t (given ts) e = (refl, refl)
-elements-cons t (refused f) e = absurd (false≢true e)
+elements-cons t (Ok ts) e = (refl, refl)
+elements-cons t (Err f) e = absurd (false≢true e)
 
 module _ {raw out₀ out : List ℕ} {i at : ℕ} (w : Listing raw out₀ out i at) where
   pub listing-end : length raw ≤ i → (at ≡ length (list_of 2 (elements_in (elements_of raw)))) × (out ≡ at_front out₀ (list_of 2 (elements_in (elements_of raw))))
@@ -339,13 +339,13 @@ module _ {raw out₀ out : List ℕ} {i at : ℕ} (w : Listing raw out₀ out i 
     own-sound = go (own raw i h q) refl
       where
         go : (a : Answer (List ℕ)) → own raw i h q ≡ a → accepted a ≡ true
-        go (given t) z = refl
-        go (refused g) z = wrong g z (everywhere escapes.List (element raw i h q) false 0)
+        go (Ok t) z = refl
+        go (Err g) z = wrong g z (everywhere escapes.List (element raw i h q) false 0)
           where
-            wrong : (g : Fault) → own raw i h q ≡ refused g → Everywhere escapes.List (element raw i h q) false 0 (own raw i h q) → false ≡ true
+            wrong : (g : Fault) → own raw i h q ≡ Err g → Everywhere escapes.List (element raw i h q) false 0 (own raw i h q) → false ≡ true
             wrong g z v =
                 let (p, k, m, l) = rw z at v in
-                sym (ap accepted (element-wrong raw i h q {p = 0 + p} (z ∙ ap refused k))) ∙ w.sound
+                sym (ap accepted (element-wrong raw i h q {p = 0 + p} (z ∙ ap Err k))) ∙ w.sound
 
     abbrev body : List ℕ
     body = text_of (own raw i h q)

@@ -1,9 +1,9 @@
 -- Text read from raw bytes, a byte of the text at a time. Assumes nothing.
+use Rattle.std.specs.Prelude.{Option, Some, None, Ok, Err}
 use mathlib.Core.Path.{◌≡◌, refl, sym, ap, ◌∙◌}
 use Prim.Native.Nat.{ℕ, suc, ◌+◌, ◌≤◌, ◌<◌}
 use native.Mathlib.Omega.{arith}
 use mathlib.Core.Bool.{Bool, true, false, false≢true}
-use mathlib.Core.Option.{Option, none, some}
 use mathlib.Core.List.{List, [], ◌∷◌}
 use lib.ListN.{length, drop, set, length-drop}
 use lib.Seq.{drop-drop}
@@ -14,7 +14,7 @@ use Rattle.base.proofs.Scan.{done}
 use Rattle.base.proofs.Tests.{no}
 use Rattle.base.proofs.Fill.{Fill, fill-length, fill-as, fill-byte, fill_end}
 use Rattle.fault.specs.declared.Fault.TheVariants.{BadEscape}
-use Rattle.fault.specs.Answer.{Answer, given, refused, then, accepted}
+use Rattle.fault.specs.Answer.{Answer, then, accepted}
 use Rattle.text.specs.Escape.{escape, text_from}
 use Rattle.text.specs.Step.{pair_of, decoded_after, decoded_of, text_of}
 use Rattle.text.specs.declared.Escapes.{Escapes}
@@ -26,16 +26,16 @@ use Rattle.text.specs.declared.Decoded.TheVariants.{Byte, Wrong}
 -- what the first piece says of the whole
 goes_on : Escapes → List ℕ → ℕ → Decoded → Answer (List ℕ)
 goes_on k s at (Byte x w) = then (λ t. x ∷ t) (text_from k (drop w s) false (at + w))
-goes_on k s at Wrong = refused (BadEscape at)
+goes_on k s at Wrong = Err (BadEscape at)
 
 after-step : (k : Escapes) (b : ℕ) (bs : List ℕ) (at : ℕ) → text_from k bs true at ≡ goes_on k (b ∷ bs) at (decoded_after k bs)
 unfolding text_from decoded_after goes_on
 after-step k b [] at = refl
 after-step k b (c ∷ bs) at = go (escape k c)
   where
-    go : (o : Option ℕ) → maybe o (refused (BadEscape at)) (λ x. then (λ t. x ∷ t) (text_from k bs false (at + 2))) ≡ goes_on k (b ∷ c ∷ bs) at (pair_of o)
-    go none = refl
-    go (some x) = refl
+    go : (o : Option ℕ) → maybe o (Err (BadEscape at)) (λ x. then (λ t. x ∷ t) (text_from k bs false (at + 2))) ≡ goes_on k (b ∷ c ∷ bs) at (pair_of o)
+    go None = refl
+    go (Some x) = refl
 
 text-step : (k : Escapes) (s : List ℕ) (at : ℕ) → 0 < length s → text_from k s false at ≡ goes_on k s at (decoded_of k s)
 unfolding text_from decoded_of goes_on
@@ -58,8 +58,8 @@ after-within k [] = tt
 after-within k (c ∷ bs) = go (escape k c)
   where
     go : (o : Option ℕ) → Within (suc (suc (length bs))) (pair_of o)
-    go none = tt
-    go (some x) = (omega arith, omega arith)
+    go None = tt
+    go (Some x) = (omega arith, omega arith)
 
 piece-within : (k : Escapes) (s : List ℕ) → Within (length s) (decoded_of k s)
 unfolding decoded_of
@@ -77,7 +77,7 @@ module _ (k : Escapes) (raw : List ℕ) (i : ℕ) where
   abbrev pub text_at : Answer (List ℕ)
   text_at = text_from k (drop i raw) false i
 
-  pub text-done : length raw ≤ i → text_at ≡ given []
+  pub text-done : length raw ≤ i → text_at ≡ Ok []
   unfolding text_from
   text-done h = rw (done raw i h)
 
@@ -85,7 +85,7 @@ module _ (k : Escapes) (raw : List ℕ) (i : ℕ) where
     some_left : 0 < length (drop i raw)
     some_left = simp length-drop (omega arith)
 
-    pub text-wrong : Wrong ≡ decoded_of k (drop i raw) → text_at ≡ refused (BadEscape i)
+    pub text-wrong : Wrong ≡ decoded_of k (drop i raw) → text_at ≡ Err (BadEscape i)
     unfolding goes_on
     text-wrong e = rw (text-step k (drop i raw) i some_left, ← e)
 
@@ -107,12 +107,12 @@ abbrev pub counted : ℕ → Answer (List ℕ) → Answer ℕ
 counted n a = then (λ t. n + length t) a
 
 counted-cons : (n x : ℕ) (a : Answer (List ℕ)) → counted n (then (λ t. x ∷ t) a) ≡ counted (n + 1) a
-counted-cons n x (given t) = ap given (omega arith)
-counted-cons n x (refused f) = refl
+counted-cons n x (Ok t) = ap Ok (omega arith)
+counted-cons n x (Err f) = refl
 
 pub counted_start : (a : Answer (List ℕ)) → counted 0 a ≡ then length a
-counted_start (given t) = ap given (omega arith)
-counted_start (refused f) = refl
+counted_start (Ok t) = ap Ok (omega arith)
+counted_start (Err f) = refl
 
 pub record Measured (k : Escapes) (raw : List ℕ) (i n : ℕ) : Type 0 where
   pub i-le : i ≤ length raw
@@ -129,17 +129,17 @@ module _ {k : Escapes} {raw : List ℕ} {i n : ℕ} (m : Measured k raw i n) whe
         goes = sym (counted-cons n x (text_at k raw (i + w))) ∙ ap (counted n) (sym (text-byte k raw i h e)) ∙ m.goes;
       }
 
-  pub measured-wrong : i < length raw → Wrong ≡ decoded_of k (drop i raw) → refused (BadEscape i) ≡ then length (text_from k raw false 0)
+  pub measured-wrong : i < length raw → Wrong ≡ decoded_of k (drop i raw) → Err (BadEscape i) ≡ then length (text_from k raw false 0)
   measured-wrong h e = rw (text-wrong k raw i h e) at m.goes
 
-  pub measured-end : length raw ≤ i → given n ≡ then length (text_from k raw false 0)
-  measured-end h = ap given (omega arith) ∙ rw (text-done k raw i h) at m.goes
+  pub measured-end : length raw ≤ i → Ok n ≡ then length (text_from k raw false 0)
+  measured-end h = ap Ok (omega arith) ∙ rw (text-done k raw i h) at m.goes
 
 -- ---- writing: what is written and the text from the place on are the whole text
 
 text-cons : (x : ℕ) (a : Answer (List ℕ)) → accepted (then (λ t. x ∷ t) a) ≡ true → (text_of (then (λ t. x ∷ t) a) ≡ x ∷ text_of a) × (accepted a ≡ true)
-text-cons x (given t) e = (refl, refl)
-text-cons x (refused f) e = no (cc)
+text-cons x (Ok t) e = (refl, refl)
+text-cons x (Err f) e = no (cc)
 
 pub record Reading (k : Escapes) (raw out₀ out : List ℕ) (i n : ℕ) : Type 0 where
   pub i-le : i ≤ length raw

@@ -1,9 +1,9 @@
 -- A text that can be set is written as a value that an entry may have. Assumes nothing.
+use Rattle.std.specs.Prelude.{Option, Some, None}
 use mathlib.Core.Path.{◌≡◌, refl, sym, ap, ◌∙◌}
 use Prim.Native.Nat.{ℕ, ◌<◌}
 use native.Mathlib.Omega.{arith}
 use mathlib.Core.Bool.{Bool, true, false, not, ◌||◌, false≢true}
-use mathlib.Core.Option.{Option, none, some}
 use mathlib.Core.List.{List, [], ◌∷◌, ◌++◌}
 use lib.Dec.{eqb}
 use borrow.Author.Tests.{eqb-true}
@@ -18,11 +18,11 @@ use Rattle.text.specs.Escape.{escaped, escaped_all, raw_text, fit_text}
 use Rattle.base.proofs.Tests.{no, by-test}
 
 -- a byte written as a pair
-pair_goes : (b c : ℕ) (d next : Due) (s : List ℕ) → b < 128 → step text_byte Start b ≡ some Start → step value_byte Start c ≡ some Start → High d → step text_byte d b ≡ some next
-    → text_fault value_byte next s ≡ none → text_fault value_byte d (92 ∷ c ∷ s) ≡ none
+pair_goes : (b c : ℕ) (d next : Due) (s : List ℕ) → b < 128 → step text_byte Start b ≡ Some Start → step value_byte Start c ≡ Some Start → High d → step text_byte d b ≡ Some next
+    → text_fault value_byte next s ≡ None → text_fault value_byte d (92 ∷ c ∷ s) ≡ None
 pair_goes b c d next s l o p h e f =
     let i : d ≡ Start = low-start text_byte d b next l h e in
-    let j : some next ≡ some Start = sym e ∙ ap (λ (x : Due). step text_byte x b) i ∙ o in
+    let j : Some next ≡ Some Start = sym e ∙ ap (λ (x : Due). step text_byte x b) i ∙ o in
     let k : next ≡ Start = cc in
     rw i (went value_byte Start 92 (c ∷ s) Start (unfold step value_byte in refl) (went value_byte Start c s Start p (rw k at f)))
 
@@ -39,7 +39,7 @@ unfolding step
 plain_step b Start e = rw e
 plain_step b (Tail more low high) e = refl
 
-escaped-goes : (b : ℕ) (d next : Due) (s : List ℕ) → High d → step text_byte d b ≡ some next → text_fault value_byte next s ≡ none → text_fault value_byte d (escaped b ++ s) ≡ none
+escaped-goes : (b : ℕ) (d next : Due) (s : List ℕ) → High d → step text_byte d b ≡ Some next → text_fault value_byte next s ≡ None → text_fault value_byte d (escaped b ++ s) ≡ None
 unfolding escaped
 escaped-goes b d next s h e f =
     by-test (eqb b 92)
@@ -52,14 +52,14 @@ escaped-goes b d next s h e f =
     (λ t₄. rw (n₁, n₂, n₃, t₄) (pair 13 114 t₄ (omega arith) (unfold step text_byte value_byte in refl) (unfold step value_byte in refl)))
     (λ n₄. rw (n₁, n₂, n₃, n₄) (went value_byte d b s next (sym (plain_step b d (plain-same b n₂ n₃ n₄)) ∙ e) f)))))
   where
-    pair : (k c : ℕ) → eqb b k ≡ true → k < 128 → step text_byte Start k ≡ some Start → step value_byte Start c ≡ some Start → text_fault value_byte d (92 ∷ c ∷ s) ≡ none
+    pair : (k c : ℕ) → eqb b k ≡ true → k < 128 → step text_byte Start k ≡ Some Start → step value_byte Start c ≡ Some Start → text_fault value_byte d (92 ∷ c ∷ s) ≡ None
     pair k c t l o p = let i = eqb-true b k t in pair_goes b c d next s (omega arith) (rw i o) p h e f
 
-unfinished : (more low high : ℕ) → text_fault text_byte (Tail more low high) [] ≡ none → ⊥
+unfinished : (more low high : ℕ) → text_fault text_byte (Tail more low high) [] ≡ None → ⊥
 unfolding text_fault
 unfinished more low high e = no (cc)
 
-escaped_all-goes : (t : List ℕ) (d : Due) → High d → text_fault text_byte d t ≡ none → text_fault value_byte d (escaped_all t) ≡ none
+escaped_all-goes : (t : List ℕ) (d : Due) → High d → text_fault text_byte d t ≡ None → text_fault value_byte d (escaped_all t) ≡ None
 unfolding escaped_all
 escaped_all-goes [] Start h e = unfold text_fault in refl
 escaped_all-goes [] (Tail more low high) h e = absurd (unfinished more low high e)
@@ -67,16 +67,16 @@ escaped_all-goes (b ∷ t) d h e =
     let g = goes text_byte d b t e in
     escaped-goes b d g.next (escaped_all t) h g.one (escaped_all-goes t g.next (step-high text_byte d b g.next h g.one) g.rest)
 
-fit-text : (t : List ℕ) → fit_text t ≡ true → text_fault text_byte Start t ≡ none
+fit-text : (t : List ℕ) → fit_text t ≡ true → text_fault text_byte Start t ≡ None
 unfolding fit_text
 fit-text t e = by (text_fault text_byte Start t) e
   where
-    by : (o : Option ℕ) → not (there o) ≡ true → o ≡ none
-    by none e = refl
-    by (some n) e = absurd (false≢true e)
+    by : (o : Option ℕ) → not (there o) ≡ true → o ≡ None
+    by None e = refl
+    by (Some n) e = absurd (false≢true e)
 
 -- a written text is a value
-pub raw-text : (t : List ℕ) → fit_text t ≡ true → text_fault value_byte Start (raw_text t) ≡ none
+pub raw-text : (t : List ℕ) → fit_text t ≡ true → text_fault value_byte Start (raw_text t) ≡ None
 unfolding raw_text
 raw-text [] e = unfold text_fault in refl
 raw-text (b ∷ t) e =

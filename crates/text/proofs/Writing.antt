@@ -1,9 +1,9 @@
 -- The raw value of a text, a byte of the text at a time. Assumes nothing.
+use Rattle.std.specs.Prelude.{Some, None, Ok, Err}
 use mathlib.Core.Path.{◌≡◌, refl, ap, ◌∙◌}
 use Prim.Native.Nat.{ℕ, ◌+◌, ◌*◌, ◌≤◌, ◌<◌}
 use native.Mathlib.Omega.{arith}
 use mathlib.Core.Bool.{Bool, true, false}
-use mathlib.Core.Option.{none, some}
 use mathlib.Core.List.{List, [], ◌∷◌, ◌++◌}
 use lib.ListN.{length, drop, get_or, set}
 use lib.Dec.{eqb}
@@ -14,7 +14,6 @@ use Rattle.base.specs.Over.{at_front}
 use Rattle.base.proofs.Scan.{here, done}
 use Rattle.base.proofs.Fill.{Fill, fill-length, fill-as, fill-byte, fill_end}
 use Rattle.fault.specs.declared.Fault.TheVariants.{UnfitText}
-use Rattle.fault.specs.Answer.{given, refused}
 use Rattle.characters.specs.Class.{text_byte}
 use Rattle.characters.specs.Utf8.{text_fault}
 use Rattle.characters.specs.declared.Due.TheVariants.{Start}
@@ -128,10 +127,10 @@ count-end {text} {i} m h = omega (arith, m.goes, ap length (raw-end text i h))
 
 -- ---- text that can be set, and text that cannot
 
-pub fit_written : (t : List ℕ) → none ≡ text_fault text_byte Start t → write_text t ≡ given (raw_text t)
+pub fit_written : (t : List ℕ) → None ≡ text_fault text_byte Start t → write_text t ≡ Ok (raw_text t)
 unfolding write_text fit_text
 fit_written t e = rw (← e)
 
-pub unfit-written : (t : List ℕ) {n : ℕ} → some n ≡ text_fault text_byte Start t → write_text t ≡ refused UnfitText
+pub unfit-written : (t : List ℕ) {n : ℕ} → Some n ≡ text_fault text_byte Start t → write_text t ≡ Err UnfitText
 unfolding write_text fit_text
 unfit-written t e = rw (← e)

@@ -1,10 +1,10 @@
 -- Value lists (01, "Language, escapes, lists"). Assumes nothing.
-use Rattle.std.specs.Prelude.{ℕ, ◌+◌, Bool, true, false, List, [], ◌∷◌, length, eqb, ltb}
+use Rattle.std.specs.Prelude.{ℕ, ◌+◌, Bool, true, false, List, [], ◌∷◌, length, eqb, ltb, Ok}
 use Prim.Native.Char.{code}
 use Rattle.base.specs.Choice.{pick}
 use Rattle.base.specs.Lists.{all, before}
 use Rattle.fault.specs.declared.Fault.TheVariants.{NoRoom}
-use Rattle.fault.specs.Answer.{Answer, given, ◌>>=◌, need}
+use Rattle.fault.specs.Answer.{Answer, ◌>>=◌, need}
 use Rattle.record.specs.Record.{record_length, list_of}
 use Rattle.text.specs.Escape.{text_from}
 use Rattle.text.specs.declared.Escapes.TheVariants as escapes
@@ -21,11 +21,11 @@ raw_elements (b ∷ bs) false =
 
 -- each raw element read as text; the place of 9 counts in the whole value, where a `;` follows each element
 unfoldable pub each_read : List (List ℕ) → ℕ → Answer (List (List ℕ))
-each_read [] at = given []
+each_read [] at = Ok []
 each_read (e ∷ es) at = do
   t ← text_from escapes.List e false at
   ts ← each_read es (at + length e + 1)
-  given (t ∷ ts)
+  Ok (t ∷ ts)
 
 -- the elements of a raw value, or 9
 unfoldable pub elements_of : List ℕ → Answer (List (List ℕ))
@@ -40,4 +40,4 @@ unfoldable pub read_elements : List ℕ → Answer (List ℕ)
 read_elements raw = do
   es ← elements_of raw
   _ ← need (all fits_record es) NoRoom
-  given (list_of 2 es)
+  Ok (list_of 2 es)

@@ -1,23 +1,23 @@
 -- What a call that writes to a lent output answers and leaves there. Assumes nothing.
-use Rattle.std.specs.Prelude.{ℕ, List, length, leb}
+use Rattle.std.specs.Prelude.{ℕ, List, length, leb, Ok, Err}
 use Rattle.base.specs.Choice.{pick}
 use Rattle.base.specs.Over.{at_front}
 use Rattle.fault.specs.declared.Fault.TheVariants.{NoRoom}
-use Rattle.fault.specs.Answer.{Answer, given, refused}
+use Rattle.fault.specs.Answer.{Answer}
 use Rattle.text.specs.declared.Written.{Written}
 use Rattle.text.specs.declared.Written.TheVariants as written
 
 -- what the answer says
 abbrev pub answered : Written → Answer ℕ
-answered (written.Bytes n) = given n
-answered (written.Refused f) = refused f
+answered (written.Bytes n) = Ok n
+answered (written.Refused f) = Err f
 
 -- how many bytes are written, or the refusal; 11 where there is no room
 abbrev pub written_length : Answer (List ℕ) → List ℕ → Answer ℕ
-written_length (given s) out = pick (leb (length s) (length out)) (given (length s)) (refused NoRoom)
-written_length (refused f) out = refused f
+written_length (Ok s) out = pick (leb (length s) (length out)) (Ok (length s)) (Err NoRoom)
+written_length (Err f) out = Err f
 
 -- what the output then holds: the bytes at its start and the rest as it was; a refusal writes nothing
 abbrev pub held : Answer (List ℕ) → List ℕ → List ℕ
-held (given s) out = pick (leb (length s) (length out)) (at_front out s) out
-held (refused f) out = out
+held (Ok s) out = pick (leb (length s) (length out)) (at_front out s) out
+held (Err f) out = out

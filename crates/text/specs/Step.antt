@@ -1,10 +1,9 @@
 -- What the inner functions of this crate answer, by the definitions of text. Assumes nothing.
-use Rattle.std.specs.Prelude.{ℕ, ◌+◌, ◌-◌, Bool, true, false, List, [], ◌∷◌, length, eqb, ltb, leb}
+use Rattle.std.specs.Prelude.{ℕ, ◌+◌, ◌-◌, Bool, true, false, List, [], ◌∷◌, length, eqb, ltb, leb, Option, Some, None, Ok, Err}
 use Prim.Native.Char.{code}
-use Rattle.std.proofs.Math.Option.{Option, none, some}
 use Rattle.base.specs.Choice.{pick}
 use Rattle.fault.specs.declared.Fault.TheVariants.{BadEscape}
-use Rattle.fault.specs.Answer.{Answer, given, refused}
+use Rattle.fault.specs.Answer.{Answer}
 use Rattle.characters.specs.Bare.{bare_length}
 use Rattle.record.specs.Record.{head_length}
 use Rattle.text.specs.Escape.{escape}
@@ -20,8 +19,8 @@ use Rattle.text.specs.declared.Measure.TheVariants as measure
 
 -- the byte that an escape stands for, with the two raw bytes it takes
 abbrev pub pair_of : Option ℕ → Decoded
-pair_of none = decoded.Wrong
-pair_of (some x) = decoded.Byte x 2
+pair_of None = decoded.Wrong
+pair_of (Some x) = decoded.Byte x 2
 
 -- the same of the byte after a backslash
 unfoldable pub decoded_after : Escapes → List ℕ → Decoded
@@ -35,18 +34,18 @@ decoded_of k (b ∷ bs) = pick (eqb b (code "\\")) (decoded_after k bs) (decoded
 
 -- how long a text is, or where the escape is wrong
 abbrev pub measured : Measure → Answer ℕ
-measured (measure.Length n) = given n
-measured (measure.Wrong at) = refused (BadEscape at)
+measured (measure.Length n) = Ok n
+measured (measure.Wrong at) = Err (BadEscape at)
 
 -- the text, where it is given
 abbrev pub text_of : Answer (List ℕ) → List ℕ
-text_of (given t) = t
-text_of (refused f) = []
+text_of (Ok t) = t
+text_of (Err f) = []
 
 -- the elements, where they are given
 abbrev pub elements_in : Answer (List (List ℕ)) → List (List ℕ)
-elements_in (given es) = es
-elements_in (refused f) = []
+elements_in (Ok es) = es
+elements_in (Err f) = []
 
 -- the room left after n bytes
 unfoldable pub spend : Left → ℕ → Left
@@ -64,8 +63,8 @@ spend_all room (e ∷ es) = spend_all (spend_record room (length e)) es
 
 -- the room left after a list, or where an escape in it is wrong
 abbrev pub room_of : Room → Answer Left
-room_of (room.Left room) = given room
-room_of (room.Wrong at) = refused (BadEscape at)
+room_of (room.Left room) = Ok room
+room_of (room.Wrong at) = Err (BadEscape at)
 
 -- how many raw bytes the first element has; the flag: a backslash took the first byte
 abbrev pub element_length : List ℕ → Bool → ℕ

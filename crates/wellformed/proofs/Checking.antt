@@ -1,9 +1,9 @@
 -- The first pass over a file: after some rows, what the titles seen, the rows before and the marks tell of each other. Assumes nothing.
+use Rattle.std.specs.Prelude.{Option, Some, None, Ok, Err}
 use mathlib.Core.Path.{◌≡◌, refl, sym, ap, ◌∙◌}
 use Prim.Native.Nat.{ℕ, ◌+◌, ◌%◌, ◌≤◌, ◌<◌}
 use native.Mathlib.Omega.{arith}
 use mathlib.Core.Bool.{Bool, true, false, not, ◌||◌, false≢true}
-use mathlib.Core.Option.{Option, none, some}
 use mathlib.Core.List.{List, [], ◌∷◌}
 use lib.ListN.{length, take, drop}
 use lib.Dec.{eqb}
@@ -13,7 +13,7 @@ use Rattle.base.specs.Lists.{part, any}
 use Rattle.base.proofs.Tests.{no, by-test}
 use Rattle.fault.specs.declared.Fault.{Fault}
 use Rattle.fault.specs.declared.Fault.TheVariants.{FirstGroup, RepeatedGroup, RepeatedKey}
-use Rattle.fault.specs.Answer.{given, refused, need, unless}
+use Rattle.fault.specs.Answer.{need, unless}
 use Rattle.fault.proofs.Answers.{unless-refused}
 use Rattle.line.specs.Line.{read_line, is_bad}
 use Rattle.line.specs.declared.Line.{Line}
@@ -32,26 +32,26 @@ use Rattle.wellformed.proofs.Places.{tag_after}
 use Rattle.wellformed.proofs.Known.{Known, known_start, known-header, known-entry}
 
 -- what a fault that is asked by a test is told as
-told_none : (b : Bool) (f : Fault) → unless (pick b none (some f)) ≡ need b f
+told_none : (b : Bool) (f : Fault) → unless (pick b None (Some f)) ≡ need b f
 told_none true f = refl
 told_none false f = refl
 
-told-some : (b : Bool) (f : Fault) → unless (pick b (some f) none) ≡ need (not b) f
+told-some : (b : Bool) (f : Fault) → unless (pick b (Some f) None) ≡ need (not b) f
 told-some true f = refl
 told-some false f = refl
 
 -- no fault
-unless-none : (o : Option Fault) → given tt ≡ unless o → o ≡ none
-unless-none none e = refl
-unless-none (some f) e = no (cc)
+unless-none : (o : Option Fault) → Ok tt ≡ unless o → o ≡ None
+unless-none None e = refl
+unless-none (Some f) e = no (cc)
 
 -- a title without fault is new, and the first is no key's
-fault-new : (leading : List ℕ) (seen : List Title) (t : Title) (n : ℕ) (again : Fault) → title_fault leading seen t n again ≡ none → any (same_title t) seen ≡ false
+fault-new : (leading : List ℕ) (seen : List Title) (t : Title) (n : ℕ) (again : Fault) → title_fault leading seen t n again ≡ None → any (same_title t) seen ≡ false
 unfolding title_fault any
 fault-new leading [] t n again e = refl
-fault-new leading (s ∷ seen) t n again e = by-test (any (same_title t) (s ∷ seen)) (λ y. let z : some again ≡ none = rw y at e in no (cc)) (λ f. f)
+fault-new leading (s ∷ seen) t n again e = by-test (any (same_title t) (s ∷ seen)) (λ y. let z : Some again ≡ None = rw y at e in no (cc)) (λ f. f)
 
-key-later : (leading g k : List ℕ) (n : ℕ) (again : Fault) → title_fault leading [] (Key g k) n again ≡ none → ⊥
+key-later : (leading g k : List ℕ) (n : ℕ) (again : Fault) → title_fault leading [] (Key g k) n again ≡ None → ⊥
 unfolding title_fault same_title
 key-later leading g k n again e = no (cc)
 
@@ -123,11 +123,11 @@ module _ {leading file m : List ℕ} {p n tag : ℕ} {group : List ℕ} (c : Che
     named r = title_of (group_after group (part p e file) r) (part p e file) r
 
     earliest-at : earliest leading c.seen (rows_from n p group (rows (drop p file)))
-        ≡ maybe (row_fault leading c.seen (title_at file p e group) n (read_line (part p e file))) (earliest leading (seeing (title_at file p e group) c.seen) (rows_from (n + 1) (e + 1) (group_next file p e group) (rows (drop (e + 1) file)))) some
+        ≡ maybe (row_fault leading c.seen (title_at file p e group) n (read_line (part p e file))) (earliest leading (seeing (title_at file p e group) c.seen) (rows_from (n + 1) (e + 1) (group_next file p e group) (rows (drop (e + 1) file)))) Some
     unfolding earliest
     earliest-at = rw (row_step file h q n group, title-at file h q n group)
 
-    going : (m' : List ℕ) (tag' : ℕ) → row_fault leading c.seen (title_at file p e group) n (read_line (part p e file)) ≡ none → is_bad (read_line (part p e file)) ≡ false
+    going : (m' : List ℕ) (tag' : ℕ) → row_fault leading c.seen (title_at file p e group) n (read_line (part p e file)) ≡ None → is_bad (read_line (part p e file)) ≡ false
         → Known m' tag' (group_next file p e group) (seeing (title_at file p e group) c.seen) → (not (eqb tag 0) || is_group (title_at file p e group)) ≡ not (eqb tag' 0)
         → Checking leading file m' (e + 1) (n + 1) tag' (group_next file p e group)
     going m' tag' w g k t = record {
@@ -153,24 +153,24 @@ module _ {leading file m : List ℕ} {p n tag : ℕ} {group : List ℕ} (c : Che
     row_told (Entry key name value) = title-told (Key group (take name (part p e file))) (RepeatedKey n)
     row_told (Bad b) = refl
 
-    pub checking-fault : {r : Line} {f : Fault} → r ≡ read_line (part p e file) → refused f ≡ row_after (eqb tag 0) leading (read_rows (take p file)) (named r) n r
-        → refused f ≡ titled_as leading (read_rows file)
+    pub checking-fault : {r : Line} {f : Fault} → r ≡ read_line (part p e file) → Err f ≡ row_after (eqb tag 0) leading (read_rows (take p file)) (named r) n r
+        → Err f ≡ titled_as leading (read_rows file)
     unfolding titled_as
     checking-fault {r} {f} x v =
         let w = rw x at (unless-refused (row_fault leading c.seen (named r) n r) f (row_told r ∙ sym v)) in
-        let z : earliest leading [] (read_rows file) ≡ some f = sym c.goes ∙ earliest-at ∙ rw w in
+        let z : earliest leading [] (read_rows file) ≡ Some f = sym c.goes ∙ earliest-at ∙ rw w in
         rw z
 
-    pub checking-next : {m' : List ℕ} (r : Line) → r ≡ read_line (part p e file) → given tt ≡ row_after (eqb tag 0) leading (read_rows (take p file)) (named r) n r → m' ≡ marks_with m tag (named r)
+    pub checking-next : {m' : List ℕ} (r : Line) → r ≡ read_line (part p e file) → Ok tt ≡ row_after (eqb tag 0) leading (read_rows (take p file)) (named r) n r → m' ≡ marks_with m tag (named r)
         → Checking leading file m' (e + 1) (n + 1) (tag_after tag r) (group_after group (part p e file) r)
     checking-next {m'} r x v i = by r x (unless-none (row_fault leading c.seen (named r) n r) (v ∙ sym (row_told r))) i
       where
-        step : (r : Line) (tag' : ℕ) → r ≡ read_line (part p e file) → row_fault leading c.seen (named r) n r ≡ none → is_bad r ≡ false
+        step : (r : Line) (tag' : ℕ) → r ≡ read_line (part p e file) → row_fault leading c.seen (named r) n r ≡ None → is_bad r ≡ false
             → Known m' tag' (group_after group (part p e file) r) (seeing (named r) c.seen) → (not (eqb tag 0) || is_group (named r)) ≡ not (eqb tag' 0)
             → Checking leading file m' (e + 1) (n + 1) tag' (group_after group (part p e file) r)
         step r tag' x w g k t = rw (← x) at (going m' tag' (rw (← x) w) (rw (← x) g) (rw (← x) k) (rw (← x) t))
 
-        by : (r : Line) → r ≡ read_line (part p e file) → row_fault leading c.seen (named r) n r ≡ none → m' ≡ marks_with m tag (named r)
+        by : (r : Line) → r ≡ read_line (part p e file) → row_fault leading c.seen (named r) n r ≡ None → m' ≡ marks_with m tag (named r)
             → Checking leading file m' (e + 1) (n + 1) (tag_after tag r) (group_after group (part p e file) r)
         by Blank x w i = step Blank tag x w refl (rw i c.known) (or-false (not (eqb tag 0)))
         by Comment x w i = step Comment tag x w refl (rw i c.known) (or-false (not (eqb tag 0)))
@@ -189,14 +189,14 @@ module _ {leading file m : List ℕ} {p n tag : ℕ} {group : List ℕ} (c : Che
 
   -- ---- at the end
 
-  all_read : length file ≤ p → earliest leading [] (read_rows file) ≡ none
+  all_read : length file ≤ p → earliest leading [] (read_rows file) ≡ None
   unfolding earliest rows_from
   all_read h = sym c.goes ∙ rw (no_row file p h)
 
-  pub end_none : length file ≤ p → tag ≡ 0 → refused (FirstGroup 0) ≡ titled_as leading (read_rows file)
+  pub end_none : length file ≤ p → tag ≡ 0 → Err (FirstGroup 0) ≡ titled_as leading (read_rows file)
   unfolding titled_as
   end_none h z = rw (all_read h, prefix-end c.prefix h, c.headed, eq-eqb tag 0 z)
 
-  pub end-some : length file ≤ p → (tag ≡ 0 → ⊥) → given tt ≡ titled_as leading (read_rows file)
+  pub end-some : length file ≤ p → (tag ≡ 0 → ⊥) → Ok tt ≡ titled_as leading (read_rows file)
   unfolding titled_as
   end-some h z = rw (all_read h, prefix-end c.prefix h, c.headed, ne_eqb tag 0 z)

@@ -1,9 +1,9 @@
 -- The parts of the file that a state holds, and the row that is read in it. Assumes nothing.
+use Rattle.std.specs.Prelude.{Option, Some, None}
 use mathlib.Core.Path.{◌≡◌, sym, ap, ◌∙◌}
 use Prim.Native.Nat.{ℕ, ◌+◌, ◌-◌, ◌%◌, ◌<◌}
 use native.Mathlib.Omega.{arith}
 use mathlib.Core.Bool.{Bool}
-use mathlib.Core.Option.{Option, none, some}
 use mathlib.Core.List.{List}
 use lib.ListN.{length, take, drop, length-drop}
 use lib.Seq.{length-take-le}
@@ -23,8 +23,8 @@ use Rattle.wellformed.specs.Pass.{bytes, Lies, Reads, is_found}
 
 -- a search that found a row
 pub found-is : (o : Option Row) {f : Found} {b : Bool} → b ≡ is_found f → f ≡ found_of o → there o ≡ b
-found-is none x y = rw (x, y)
-found-is (some r) x y = rw (x, y)
+found-is None x y = rw (x, y)
+found-is (Some r) x y = rw (x, y)
 
 pub bytes-length : (file : List ℕ) (x : Part) → Lies file x → length (bytes file x) ≡ x.len
 bytes-length file x h = length-take-le x.len (drop x.from file) (simp length-drop (omega arith))

@@ -1,9 +1,9 @@
 -- The rule of plain keys: what the state tells of the rows before, and the second pass row by row. Assumes nothing.
+use Rattle.std.specs.Prelude.{Option, Some, None, Ok, Err}
 use mathlib.Core.Path.{◌≡◌, refl, sym, ap, ◌∙◌}
 use Prim.Native.Nat.{ℕ, ◌+◌, ◌≤◌, ◌<◌}
 use native.Mathlib.Omega.{arith}
 use mathlib.Core.Bool.{Bool, true, false, not, ◌||◌}
-use mathlib.Core.Option.{Option, none, some}
 use mathlib.Core.List.{List}
 use lib.ListN.{length, take, drop}
 use lib.Seq.{take-take}
@@ -15,7 +15,7 @@ use Rattle.base.proofs.Tests.{no, by-test, same_refl, same_true}
 use Rattle.base.proofs.Search.{there-first, any_append, first-none}
 use Rattle.fault.specs.declared.Fault.{Fault}
 use Rattle.fault.specs.declared.Fault.TheVariants.{NoPlainKey}
-use Rattle.fault.specs.Answer.{Answer, given, refused, need}
+use Rattle.fault.specs.Answer.{Answer, need}
 use Rattle.line.specs.Line.{read_line}
 use Rattle.line.specs.declared.Line.{Line}
 use Rattle.line.specs.declared.Line.TheVariants.{Blank, Comment, Header, Entry, Bad}
@@ -34,12 +34,12 @@ use Rattle.wellformed.proofs.Places.{bytes-length, reads-within, tag_after, read
 
 -- what was told of a row says whether there is one
 pub told-there : (o : Option Row) {line start end at : ℕ} → found.Row line start end at ≡ found_of o → there o ≡ true
-told-there none y = no (cc)
-told-there (some r) y = refl
+told-there None y = no (cc)
+told-there (Some r) y = refl
 
 pub told-missing : (o : Option Row) → found.Nothing ≡ found_of o → there o ≡ false
-told-missing none y = refl
-told-missing (some r) y = no (cc)
+told-missing None y = refl
+told-missing (Some r) y = no (cc)
 
 -- the same bytes are there under either part
 pub there-as : (file group : List ℕ) (y x : Part) → Lies file y → Lies file x → 0 < x.len → same (bytes file y) (bytes file x) ≡ true
@@ -50,7 +50,7 @@ there-as file group y x j k z t f =
 
 -- what a row without its plain key is told as
 abbrev pub told : Option Row → Answer (Unit {0})
-told o = maybe o (given tt) (λ r. refused (NoPlainKey r.line))
+told o = maybe o (Ok tt) (λ r. Err (NoPlainKey r.line))
 
 module _ (file : List ℕ) where
   -- ---- the row at a place
@@ -101,7 +101,7 @@ module _ (file : List ℕ) where
   unfolding read_rows rows rows_from any
   held_start = record { within = record { group = omega arith; last = omega arith; want = omega arith }; last-there = λ z. absurd (omega arith); settled = λ d z. refl }
 
-  pub held-end : {p n : ℕ} {s : State} → Prefix file p n (bytes file s.group) → Held p s → s.doubt ≡ false → s.want.len ≡ 0 → length file ≤ p → given tt ≡ plain_all (read_rows file)
+  pub held-end : {p n : ℕ} {s : State} → Prefix file p n (bytes file s.group) → Held p s → s.doubt ≡ false → s.want.len ≡ 0 → length file ≤ p → Ok tt ≡ plain_all (read_rows file)
   unfolding plain_all
   held-end w k d i h =
       rw (first-none (no_plain (read_rows file)) (read_rows file) (ap (any (no_plain (read_rows file))) (prefix-end w h) ∙ k.settled d (λ z. absurd (omega arith))))
@@ -180,7 +180,7 @@ module _ (file : List ℕ) where
   asking-start = record { prefix = prefix-start file; held = held_start; goes = refl }
 
   module _ {p n : ℕ} {s : State} (a : Asking p n s) where
-    pub asking-end : length file ≤ p → given tt ≡ plain_all (read_rows file)
+    pub asking-end : length file ≤ p → Ok tt ≡ plain_all (read_rows file)
     unfolding rows_from first
     asking-end h = rw (no_row file p h) at a.goes
 
@@ -189,15 +189,15 @@ module _ (file : List ℕ) where
       row-lacks = no_plain (read_rows file) (row_at file n p e (bytes file s.group))
 
       -- what is asked of the row is whether it lacks its plain key
-      lack-is : plain_at file p s n r ≡ pick row-lacks (refused (NoPlainKey n)) (given tt)
+      lack-is : plain_at file p s n r ≡ pick row-lacks (Err (NoPlainKey n)) (Ok tt)
       unfolding row-lacks
       lack-is = by r x
         where
-          other : (b : Bool) → need b (NoPlainKey n) ≡ pick (not b) (refused (NoPlainKey n)) (given tt)
+          other : (b : Bool) → need b (NoPlainKey n) ≡ pick (not b) (Err (NoPlainKey n)) (Ok tt)
           other true = refl
           other false = refl
 
-          by : (r : Line) → r ≡ read_line (part p e file) → plain_at file p s n r ≡ pick row-lacks (refused (NoPlainKey n)) (given tt)
+          by : (r : Line) → r ≡ read_line (part p e file) → plain_at file p s n r ≡ pick row-lacks (Err (NoPlainKey n)) (Ok tt)
           by Blank x = rw (other-asks a.prefix h q Blank x refl)
           by Comment x = rw (other-asks a.prefix h q Comment x refl)
           by (Header end) x = rw (other-asks a.prefix h q (Header end) x refl)
@@ -206,14 +206,14 @@ module _ (file : List ℕ) where
               (by-test (eqb key name) (λ t. rw (t, plain-there a.prefix h q x t) refl) (λ f. rw f (other (has (read_rows file) (Key (bytes file s.group) (bytes file (record { from = p; len = key })))))))
           by (Bad b) x = rw (other-asks a.prefix h q (Bad b) x refl)
 
-      pub asking-missing : {f : Fault} → refused f ≡ plain_at file p s n r → refused f ≡ plain_all (read_rows file)
+      pub asking-missing : {f : Fault} → Err f ≡ plain_at file p s n r → Err f ≡ plain_all (read_rows file)
       unfolding first row-lacks
-      asking-missing {f} y = by-test row-lacks (λ t. y ∙ lack-is ∙ rw t (rw (row_step file h q n (bytes file s.group), t) at a.goes)) (λ i. let z : refused f ≡ given tt = y ∙ lack-is ∙ rw i in no (cc))
+      asking-missing {f} y = by-test row-lacks (λ t. y ∙ lack-is ∙ rw t (rw (row_step file h q n (bytes file s.group), t) at a.goes)) (λ i. let z : Err f ≡ Ok tt = y ∙ lack-is ∙ rw i in no (cc))
 
-      pub asking-next : given tt ≡ plain_at file p s n r → Asking (e + 1) (n + 1) (after file p true s r)
+      pub asking-next : Ok tt ≡ plain_at file p s n r → Asking (e + 1) (n + 1) (after file p true s r)
       unfolding first row-lacks
       asking-next y =
-          let i : row-lacks ≡ false = by-test row-lacks (λ t. let z : given tt ≡ refused (NoPlainKey n) = y ∙ lack-is ∙ rw t in no (cc)) (λ f. f) in
+          let i : row-lacks ≡ false = by-test row-lacks (λ t. let z : Ok tt ≡ Err (NoPlainKey n) = y ∙ lack-is ∙ rw t in no (cc)) (λ f. f) in
           let t = held_next a.prefix a.held h q true r x (λ _ key name value j. not-false (has (read_rows file) (Key (bytes file s.group) (bytes file (record { from = p; len = key })))) (sym (entry-asks a.prefix h q (j ∙ x)) ∙ i)) in
           let m = t.group ∙ ap (group_after (bytes file s.group) (part p e file)) x in
           record { prefix = rw m (prefix-next a.prefix h q); held = t.held; goes = rw m (rw (row_step file h q n (bytes file s.group), i) at a.goes) }

@@ -1,12 +1,11 @@
 -- The check: the faults 1 to 6 of a file, in 01's order (01, "Lines of a file" and "What the caller is told"). Assumes nothing.
-use Rattle.std.specs.Prelude.{ℕ, Bool, true, false, not, List, [], ◌∷◌, length, take, leb}
-use Rattle.std.proofs.Math.Option.{Option, none, some}
+use Rattle.std.specs.Prelude.{ℕ, Bool, true, false, not, List, [], ◌∷◌, length, take, leb, Option, Some, None, Ok, Err}
 use Rattle.base.specs.Bounds.{file_most}
 use Rattle.base.specs.Choice.{pick, maybe}
 use Rattle.base.specs.Lists.{span, any, first}
 use Rattle.fault.specs.declared.Fault.{Fault}
 use Rattle.fault.specs.declared.Fault.TheVariants.{TooLong, BadLine, FirstGroup, RepeatedGroup, RepeatedKey, NoPlainKey}
-use Rattle.fault.specs.Answer.{Answer, given, refused, ◌>>=◌, need, unless}
+use Rattle.fault.specs.Answer.{Answer, ◌>>=◌, need, unless}
 use Rattle.characters.specs.Class.{key_byte}
 use Rattle.line.specs.declared.Line.{Line}
 use Rattle.line.specs.declared.Line.TheVariants.{Blank, Comment, Header, Entry, Bad}
@@ -17,28 +16,28 @@ use Rattle.wellformed.specs.declared.Checked.TheVariants as checked
 
 -- what the answer says
 abbrev pub answered : Checked → Answer (Unit {0})
-answered checked.Sound = given tt
-answered (checked.Refused f) = refused f
+answered checked.Sound = Ok tt
+answered (checked.Refused f) = Err f
 
 -- A title after those seen: the first must be the group named, and none comes twice.
 unfoldable pub title_fault : List ℕ → List Title → Title → ℕ → Fault → Option Fault
-title_fault leading [] t line again = pick (same_title t (Group leading)) none (some (FirstGroup line))
-title_fault leading (s ∷ seen) t line again = pick (any (same_title t) (s ∷ seen)) (some again) none
+title_fault leading [] t line again = pick (same_title t (Group leading)) None (Some (FirstGroup line))
+title_fault leading (s ∷ seen) t line again = pick (any (same_title t) (s ∷ seen)) (Some again) None
 
 -- what is wrong with a row, after the titles seen: bad, out of place, or repeated
 abbrev pub row_fault : List ℕ → List Title → Title → ℕ → Line → Option Fault
-row_fault leading seen t line Blank = none
-row_fault leading seen t line Comment = none
+row_fault leading seen t line Blank = None
+row_fault leading seen t line Comment = None
 row_fault leading seen t line (Header e) = title_fault leading seen t line (RepeatedGroup line)
 row_fault leading seen t line (Entry key name value) = title_fault leading seen t line (RepeatedKey line)
-row_fault leading seen t line (Bad n) = some (BadLine line n)
+row_fault leading seen t line (Bad n) = Some (BadLine line n)
 
 -- the earliest line with 2 to 5
 unfoldable pub earliest : List ℕ → List Title → List Row → Option Fault
-earliest leading seen [] = none
+earliest leading seen [] = None
 earliest leading seen (r ∷ rs) =
     let later : Option Fault = earliest leading (seeing (title r) seen) rs in
-    maybe (row_fault leading seen (title r) r.line r.reading) later some
+    maybe (row_fault leading seen (title r) r.line r.reading) later Some
 
 -- a header of any group
 abbrev pub is_group : Title → Bool
@@ -74,7 +73,7 @@ titled_as leading rs = do
 
 -- 6
 unfoldable pub plain_all : List Row → Answer (Unit {0})
-plain_all rs = maybe (first (no_plain rs) rs) (given tt) (λ r. refused (NoPlainKey r.line))
+plain_all rs = maybe (first (no_plain rs) rs) (Ok tt) (λ r. Err (NoPlainKey r.line))
 
 -- 2 to 6, of the rows of a file that is not too long
 abbrev pub checked_rows : List ℕ → List Row → Answer (Unit {0})

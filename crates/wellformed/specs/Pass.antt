@@ -1,8 +1,8 @@
 -- What the functions of this crate answer, by the definitions of the check. Assumes nothing.
-use Rattle.std.specs.Prelude.{◌≡◌, ℕ, ◌+◌, ◌-◌, ◌%◌, ◌≤◌, ◌<◌, Bool, true, false, not, ◌||◌, List, length, take, drop, eqb}
+use Rattle.std.specs.Prelude.{◌≡◌, ℕ, ◌+◌, ◌-◌, ◌%◌, ◌≤◌, ◌<◌, Bool, true, false, not, ◌||◌, List, length, take, drop, eqb, Ok, Err}
 use Rattle.base.specs.Choice.{pick}
 use Rattle.base.specs.Lists.{same}
-use Rattle.fault.specs.Answer.{Answer, given, refused, need}
+use Rattle.fault.specs.Answer.{Answer, need}
 use Rattle.fault.specs.declared.Fault.{Fault}
 use Rattle.fault.specs.declared.Fault.TheVariants.{BadLine, FirstGroup, RepeatedGroup, RepeatedKey, NoPlainKey}
 use Rattle.line.specs.Line.{read_line}
@@ -54,11 +54,11 @@ title_after false leading rs t n again = need (not (has rs t)) again
 
 -- 2 to 5 of a row after some rows, by what its line is
 abbrev pub row_after : Bool → List ℕ → List Row → Title → ℕ → Line → Answer (Unit {0})
-row_after first leading rs t n Blank = given tt
-row_after first leading rs t n Comment = given tt
+row_after first leading rs t n Blank = Ok tt
+row_after first leading rs t n Comment = Ok tt
 row_after first leading rs t n (Header end) = title_after first leading rs t n (RepeatedGroup n)
 row_after first leading rs t n (Entry key name value) = title_after first leading rs t n (RepeatedKey n)
-row_after first leading rs t n (Bad b) = refused (BadLine n b)
+row_after first leading rs t n (Bad b) = Err (BadLine n b)
 
 -- the title of a row that is read in a state
 abbrev pub named : List ℕ → Part → Line → State → Title
@@ -123,13 +123,13 @@ after file p there s (Bad b) = s
 
 -- what the first pass says of 2 to 5
 abbrev pub scanned : Scanned → Answer (Unit {0})
-scanned scan.Settled = given tt
-scanned scan.Doubtful = given tt
-scanned (scan.Refused f) = refused f
+scanned scan.Settled = Ok tt
+scanned scan.Doubtful = Ok tt
+scanned (scan.Refused f) = Err f
 
 -- what it says of 6
 abbrev pub Settles : Scanned → List Row → Type 0
-Settles scan.Settled rs = given tt ≡ plain_all rs
+Settles scan.Settled rs = Ok tt ≡ plain_all rs
 Settles scan.Doubtful rs = Unit
 Settles (scan.Refused f) rs = Unit
 
@@ -139,10 +139,10 @@ LastThere file s = 0 < s.last.len → has (read_rows file) (Key (bytes file s.gr
 
 -- 6 of a row that starts at p: the plain key of a postfixed key stands in its group
 abbrev pub plain_at : List ℕ → ℕ → State → ℕ → Line → Answer (Unit {0})
-plain_at file p s n Blank = given tt
-plain_at file p s n Comment = given tt
-plain_at file p s n (Header end) = given tt
+plain_at file p s n Blank = Ok tt
+plain_at file p s n Comment = Ok tt
+plain_at file p s n (Header end) = Ok tt
 plain_at file p s n (Entry key name value) =
     let x : Part = record { from = p; len = key } in
     need (eqb key name || has (read_rows file) (Key (bytes file s.group) (bytes file x))) (NoPlainKey n)
-plain_at file p s n (Bad b) = given tt
+plain_at file p s n (Bad b) = Ok tt

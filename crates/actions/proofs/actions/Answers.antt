@@ -1,7 +1,7 @@
 -- `actions` meets its contract: the calls that led to each return say which answer the definition has. Assumes nothing.
+use Rattle.std.specs.Prelude.{Ok}
 use mathlib.Core.Path.{◌≡◌, sym, ap, ◌∙◌}
 use mathlib.Core.Bool.{true}
-use Rattle.fault.specs.Answer.{given}
 use Rattle.fault.proofs.Answers.{then-given, then-refused}
 use Rattle.text.specs.Element.{elements_of}
 use Rattle.text.specs.Step.{room_of, spend_all}
@@ -18,7 +18,7 @@ use Rattle.actions.proofs.actions.Goals as goal
 use Rattle.actions.proofs.actions.Goals.{In-Sound, Then-is_locale}
 
 -- the file is sound
-checks : (c : In-Sound) → given tt ≡ check c.args.file.now
+checks : (c : In-Sound) → Ok tt ≡ check c.args.file.now
 checks c = sym (ap pass.answered c.in-Sound.is) ∙ c.check.ensures
 
 -- the locale has the form

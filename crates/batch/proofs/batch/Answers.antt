@@ -1,6 +1,6 @@
 -- `batch::batch` meets its contract: what is asked first decides whether the requests are run. Assumes nothing.
+use Rattle.std.specs.Prelude.{Ok}
 use mathlib.Core.Path.{◌≡◌, sym, ap, ◌∙◌}
-use Rattle.fault.specs.Answer.{given}
 use Rattle.wellformed.specs.Check as check
 use Rattle.journal.specs.Journal.{Person}
 use Rattle.edit.specs.Calls as calls
@@ -14,7 +14,7 @@ use Rattle.batch.proofs.batch.Goals.{In-Sound, Start}
 abbrev held : Start → State
 held c = lent c.args.file.now c.args.size c.args.journal.now c.args.used c.args.standing
 
-opened : (c : In-Sound) → given tt ≡ passed (calls.opened (lent c.args.file.now c.args.size c.args.journal.now c.args.used c.args.standing))
+opened : (c : In-Sound) → Ok tt ≡ passed (calls.opened (lent c.args.file.now c.args.size c.args.journal.now c.args.used c.args.standing))
 opened c = sym (ap check.answered c.in-Sound.is) ∙ c.check_lent.ensures
 
 pub run-requires : goal.run-requires

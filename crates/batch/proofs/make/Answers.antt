@@ -1,7 +1,7 @@
 -- `batch::make` meets its contract: the fields that are read are those of the request. Assumes nothing.
+use Rattle.std.specs.Prelude.{Some}
 use mathlib.Core.Path.{◌≡◌, sym, ◌∙◌}
 use native.Mathlib.Omega.{arith}
-use mathlib.Core.Option.{some}
 use Rattle.base.proofs.Tests.{no}
 use Rattle.requests.specs.Requests.{Asked}
 use Rattle.requests.specs.Places.{Reads}
@@ -17,7 +17,7 @@ three : (c : In-Three) → Reads c.args.kind c.args.body.now (Three c.in-Three.g
 three c = rw c.in-Three.is at c.read.ensures
 
 -- one request is read
-one : {a b : Asked} → some a ≡ some b → a ≡ b
+one : {a b : Asked} → Some a ≡ Some b → a ≡ b
 one e = cc
 
 pub returns-in-Damaged : goal.returns-in-Damaged

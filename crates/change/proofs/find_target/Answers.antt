@@ -1,10 +1,10 @@
 -- `find_target` meets its contract: the tests that led to each return say which refusal comes first. Assumes nothing.
+use Rattle.std.specs.Prelude.{Err}
 use mathlib.Core.Path.{◌≡◌, sym, ap, ◌∙◌}
 use mathlib.Core.Bool.{true, false, ◌&&◌}
 use mathlib.Core.List.{List}
 use Prim.Native.Nat.{ℕ}
 use Rattle.fault.specs.declared.Fault.TheVariants.{BadArgument}
-use Rattle.fault.specs.Answer.{refused}
 use Rattle.text.specs.Escape.{fit_text}
 use Rattle.characters.specs.Step.{fault_of}
 use Rattle.line.specs.Form.{group_form, key_form}
@@ -16,7 +16,7 @@ use Rattle.change.proofs.find_target.Goals as goal
 use Rattle.change.proofs.find_target.Goals.{Else-not-is_key}
 
 -- an argument that is not of the form, whatever is asked for
-bad-argument : (file group key text : List ℕ) (op : Operation) → (group_form group && key_form key) ≡ false → refused BadArgument ≡ edit_of file (request_by op group key text)
+bad-argument : (file group key text : List ℕ) (op : Operation) → (group_form group && key_form key) ≡ false → Err BadArgument ≡ edit_of file (request_by op group key text)
 unfolding edit_of
 bad-argument file group key text Set e = rw e
 bad-argument file group key text Remove e = rw e

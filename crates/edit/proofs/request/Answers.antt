@@ -1,6 +1,6 @@
 -- `edit::request` meets its contract: what was opened is edited. Assumes nothing.
+use Rattle.std.specs.Prelude.{Ok}
 use mathlib.Core.Path.{◌≡◌, sym, ap, ◌∙◌}
-use Rattle.fault.specs.Answer.{given}
 use Rattle.wellformed.specs.Check.{answered}
 use Rattle.journal.specs.Journal.{Person, Authored, by}
 use Rattle.change.specs.Change.{Request}
@@ -20,7 +20,7 @@ held c = lent c.args.file.now c.args.size c.args.journal.now c.args.used c.args.
 abbrev asked : Start → Authored Request
 asked c = by (Person c.args.person) (request_by c.args.op c.args.group.now c.args.key.now c.args.text.now)
 
-opened : (c : In-Sound) → given tt ≡ passed (calls.opened (lent c.args.file.now c.args.size c.args.journal.now c.args.used c.args.standing))
+opened : (c : In-Sound) → Ok tt ≡ passed (calls.opened (lent c.args.file.now c.args.size c.args.journal.now c.args.used c.args.standing))
 opened c = sym (ap answered c.in-Sound.is) ∙ c.check_lent.ensures
 
 pub returns-in-Refused : goal.returns-in-Refused

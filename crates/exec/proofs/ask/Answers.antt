@@ -1,11 +1,12 @@
 -- `ask` meets its contract: the calls that led to each return say which answer the definition has. Assumes nothing.
+use Rattle.std.specs.Prelude.{Ok}
 use mathlib.Core.Path.{◌≡◌, refl, sym, ap, ◌∙◌}
 use mathlib.Core.Bool.{Bool, true, false}
 use mathlib.Core.List.{List}
 use Prim.Native.Nat.{ℕ}
 use lib.ListN.{length}
 use Rattle.fault.specs.declared.Fault.TheVariants.{UnfitText}
-use Rattle.fault.specs.Answer.{given, ◌>>=◌, need, then}
+use Rattle.fault.specs.Answer.{◌>>=◌, need, then}
 use Rattle.wellformed.specs.Check as pass
 use Rattle.record.proofs.Bodies.{count-reads, count-refuses}
 use Rattle.exec.specs.Expand.{asked_items, fit_location}
@@ -13,8 +14,8 @@ use Rattle.exec.proofs.ask.Goals as goal
 use Rattle.exec.proofs.ask.Goals.{After-is_fit_location}
 
 -- the items once the last test has passed, by their number
-counted : (t : Bool) (items : List (List ℕ)) {n : ℕ} → length items ≡ n → then length (need t UnfitText >>= λ _. given items) ≡ (need t UnfitText >>= λ _. given n)
-counted true items e = ap given e
+counted : (t : Bool) (items : List (List ℕ)) {n : ℕ} → length items ≡ n → then length (need t UnfitText >>= λ _. Ok items) ≡ (need t UnfitText >>= λ _. Ok n)
+counted true items e = ap Ok e
 counted false items e = refl
 
 pub returns-in_default : goal.returns-in_default
@@ -28,7 +29,7 @@ are_fit-requires c =
 
 -- where the file, the list, the locale and the items have passed, only the location is left to ask
 located : (c : After-is_fit_location) → let a = c.args in
-    then length (asked_items a.file.now a.locale.now a.location.now a.list.now) ≡ (need (fit_location a.location.now) UnfitText >>= λ _. given c.in-Records.n)
+    then length (asked_items a.file.now a.locale.now a.location.now a.list.now) ≡ (need (fit_location a.location.now) UnfitText >>= λ _. Ok c.in-Records.n)
 unfolding asked_items
 located c =
     let k = count-reads 2 65536 c.args.list.now (sym c.count.ensures ∙ c.in-Records.is) in

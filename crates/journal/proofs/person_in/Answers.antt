@@ -1,8 +1,8 @@
 -- `journal::person_in` meets its contract: the kind before the n-th body says whether it begins with a person. Assumes nothing.
+use Rattle.std.specs.Prelude.{Ok}
 use mathlib.Core.Path.{◌∙◌, sym, ap}
 use native.Mathlib.Omega.{arith}
 use Rattle.base.proofs.Tests.{some-there}
-use Rattle.fault.specs.Answer.{given}
 use Rattle.journal.proofs.Persons.{person-found, person-missing, kind-inside, kind-there, person-inside, person-four, person-other}
 use Rattle.journal.proofs.Joined.{of}
 use Rattle.journal.proofs.person_in.Goals as goal
@@ -42,7 +42,7 @@ returns-then-number2-eq4 c es e =
     let k = c in
     let n = k in
     let f = person-found _ _ es e (sym n.nth.ensures ∙ k.in-Body.is) in
-    ap given c.number2-then-number2-eq4.ensures ∙ person-four f (sym (kind-there f) ∙ sym k.number2.ensures ∙ c.if-number2-eq4.true)
+    ap Ok c.number2-then-number2-eq4.ensures ∙ person-four f (sym (kind-there f) ∙ sym k.number2.ensures ∙ c.if-number2-eq4.true)
 
 pub returns : goal.returns
 returns c es e =

@@ -1,6 +1,6 @@
 -- `write_run` meets its contract: the room left says whether the records are written. Assumes nothing.
+use Rattle.std.specs.Prelude.{Ok}
 use mathlib.Core.Path.{refl, sym, ◌∙◌}
-use Rattle.fault.specs.Answer.{given}
 use Rattle.text.proofs.OutputLaws.{leaves-full, leaves-written}
 use Rattle.command.specs.Command.{arguments_in}
 use Rattle.run.specs.Run.{run_of}
@@ -17,10 +17,10 @@ pub returns-in-Short : goal.returns-in-Short
 returns-in-Short c =
     let a = c.args in
     let x = records_of (run_of (put_of a.item.now a.name.now a.location.now) (items_in a.list.now) a.icon.now) (arguments_in a.exec.now) in
-    leaves-full (given x) a.out.now refl (spend-lacks (sym c.in-Short.is ∙ c.run_left.ensures))
+    leaves-full (Ok x) a.out.now refl (spend-lacks (sym c.in-Short.is ∙ c.run_left.ensures))
 
 pub returns-in-Bytes : goal.returns-in-Bytes
 returns-in-Bytes c =
     let a = c.args in
     let x = records_of (run_of (put_of a.item.now a.name.now a.location.now) (items_in a.list.now) a.icon.now) (arguments_in a.exec.now) in
-    leaves-written (given x) a.out.now refl (spend-was (sym c.in-Bytes.is ∙ c.run_left.ensures)) c.put_run.ensures
+    leaves-written (Ok x) a.out.now refl (spend-was (sym c.in-Bytes.is ∙ c.run_left.ensures)) c.put_run.ensures

@@ -1,7 +1,7 @@
 -- `labels::write_all` meets its contract: the room left says whether the records are written. Assumes nothing.
+use Rattle.std.specs.Prelude.{Ok}
 use mathlib.Core.Path.{sym, ap, ◌∙◌}
 use mathlib.Core.List.{[]}
-use Rattle.fault.specs.Answer.{given}
 use Rattle.text.specs.Step.{room_of}
 use Rattle.text.specs.declared.Left.{Left}
 use Rattle.rows.specs.Rows.{read_rows}
@@ -15,7 +15,7 @@ put_all-requires c =
     let a = c.args in
     let rs = read_rows a.file.now in
     let f = records-fit (labelled rs a.locale.now (listed_from rs [] (elements a.raw.now))) a.out.now
-    (ap (λ (l : Left). given l) (sym c.in-Bytes.is) ∙ sym (ap room_of c.in-Left.is) ∙ c.all_left.ensures) in
+    (ap (λ (l : Left). Ok l) (sym c.in-Bytes.is) ∙ sym (ap room_of c.in-Left.is) ∙ c.all_left.ensures) in
     (c.requires.0, c.requires.1, f.0, f.1)
 
 pub returns-in-Wrong : goal.returns-in-Wrong
@@ -29,11 +29,11 @@ returns-in-Short c =
     let a = c.args in
     let rs = read_rows a.file.now in
     records-short (labelled rs a.locale.now (listed_from rs [] (elements a.raw.now))) a.out.now
-    (ap (λ (l : Left). given l) (sym c.in-Short.is) ∙ sym (ap room_of c.in-Left.is) ∙ c.all_left.ensures)
+    (ap (λ (l : Left). Ok l) (sym c.in-Short.is) ∙ sym (ap room_of c.in-Left.is) ∙ c.all_left.ensures)
 
 pub returns-in-Bytes : goal.returns-in-Bytes
 returns-in-Bytes c =
     let a = c.args in
     let rs = read_rows a.file.now in
     records-put (labelled rs a.locale.now (listed_from rs [] (elements a.raw.now))) a.out.now
-    (ap (λ (l : Left). given l) (sym c.in-Bytes.is) ∙ sym (ap room_of c.in-Left.is) ∙ c.all_left.ensures) c.put_all.ensures
+    (ap (λ (l : Left). Ok l) (sym c.in-Bytes.is) ∙ sym (ap room_of c.in-Left.is) ∙ c.all_left.ensures) c.put_all.ensures

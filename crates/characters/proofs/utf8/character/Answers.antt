@@ -1,6 +1,6 @@
 -- `utf8::character` meets its contract: the first byte says what is due after it. Assumes nothing.
+use Rattle.std.specs.Prelude.{Some}
 use mathlib.Core.Path.{sym, ap, ◌∙◌}
-use mathlib.Core.Option.{some}
 use Rattle.characters.specs.Step.{character_at, due_of}
 use Rattle.characters.specs.Utf8.{lead}
 use Rattle.characters.specs.declared.Due.{Due}
@@ -25,8 +25,8 @@ returns-in-Stop c = rw (sym c.lead.ensures ∙ ap due_of c.in-Stop.is)
 
 pub returns-in-Start : goal.returns-in-Start
 unfolding character_at
-returns-in-Start c = rw (sym c.lead.ensures ∙ ap due_of c.in-Is.is ∙ ap (λ (d : Due). some d) c.in-Start.is)
+returns-in-Start c = rw (sym c.lead.ensures ∙ ap due_of c.in-Is.is ∙ ap (λ (d : Due). Some d) c.in-Start.is)
 
 pub returns-in-Tail : goal.returns-in-Tail
 unfolding character_at
-returns-in-Tail c = rw (sym c.lead.ensures ∙ ap due_of c.in-Is.is ∙ ap (λ (d : Due). some d) c.in-Tail.is) c.rest.ensures
+returns-in-Tail c = rw (sym c.lead.ensures ∙ ap due_of c.in-Is.is ∙ ap (λ (d : Due). Some d) c.in-Tail.is) c.rest.ensures
