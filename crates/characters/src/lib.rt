@@ -27,24 +27,3 @@ pub enum Due {
     Start,
     Tail { more: u8, low: u8, high: u8 },
 }
-
-// What is due after a byte; none where no text goes on so.
-#[derive(Clone, Copy)]
-pub enum Next {
-    Is(Due),
-    Stop,
-}
-
-// Where a character ends, or where it does not go on.
-#[derive(Clone, Copy)]
-pub enum Rest {
-    End(usize),
-    Fault(usize),
-}
-
-// Whether bytes are text, or where they stop to be.
-#[derive(Clone, Copy)]
-pub enum Scan {
-    Sound,
-    Fault(usize),
-}

@@ -1,22 +1,22 @@
 // UTF-8 (RFC 3629), a character at a time.
-ghost use Rattle.std.specs.Prelude.{◌≡◌, true, ◌+◌, ◌<◌, ◌≤◌, length, drop, None};
+ghost use Rattle.std.specs.Prelude.{◌≡◌, true, ◌+◌, ◌<◌, ◌≤◌, length, drop, Some, None};
 ghost use Rattle.characters.specs.Class.{value_byte, content_byte};
 ghost use Rattle.characters.specs.Utf8 as spec;
-ghost use Rattle.characters.specs.Step.{due_of, fault_of, rest_at, character_at};
+ghost use Rattle.characters.specs.Step.{rest_at, character_at};
 ghost use Rattle.characters.specs.Window.{due_after, goes_on, begins_one, followed, FollowedTo, SoundFrom};
 
-use crate::{Content, Due, Next, Rest, Scan, classes};
+use crate::{Content, Due, classes};
 
 // A character that was begun.
-fn tail(more: u8, low: u8, high: u8) -> Next
-    ensures { result ≡ Next.Is (Due.Tail more low high) }
+fn tail(more: u8, low: u8, high: u8) -> Option<Due>
+    ensures { result ≡ Some (Due.Tail more low high) }
 {
-    Next::Is(Due::Tail { more, low, high })
+    Some(Due::Tail { more, low, high })
 }
 
-// What a first byte over 0x7F asks for.
-fn lead(b: u8) -> Next
-    ensures { due_of result ≡ spec.lead b }
+// What a first byte over 0x7F asks for, if it begins a character.
+fn lead(b: u8) -> Option<Due>
+    ensures { result ≡ spec.lead b }
 {
     if classes::within(0xc2, 0xdf, b) {
         return tail(0, 0x80, 0xbf);
@@ -39,7 +39,7 @@ fn lead(b: u8) -> Next
     if b == 0xf4 {
         return tail(2, 0x80, 0x8f);
     }
-    Next::Stop
+    None
 }
 
 // Whether an ASCII byte may stand.
@@ -52,8 +52,8 @@ fn may_stand(k: Content, b: u8) -> bool
     }
 }
 
-// The rest of a character that was begun: where it ends, or where it does not go on.
-fn rest(s: &[u8], from: usize, more: u8, low: u8, high: u8) -> Rest
+// The rest of a character that was begun: where it ends, or else where it does not go on.
+fn rest(s: &[u8], from: usize, more: u8, low: u8, high: u8) -> Result<usize, usize>
     ensures { result ≡ rest_at s.now from more low high }
 {
     let mut i = from;
@@ -63,33 +63,33 @@ fn rest(s: &[u8], from: usize, more: u8, low: u8, high: u8) -> Rest
     while i < s.len() {
         if classes::within(lo, hi, s[i]) {
             if m == 0 {
-                return Rest::End(i + 1);
+                return Ok(i + 1);
             }
             m -= 1;
             lo = 0x80;
             hi = 0xbf;
             i += 1;
         } else {
-            return Rest::Fault(i);
+            return Err(i);
         }
     }
-    Rest::Fault(i)
+    Err(i)
 }
 
 // The last byte of a character.
-fn last_byte(s: &[u8], i: usize, low: u8, high: u8) -> Rest
+fn last_byte(s: &[u8], i: usize, low: u8, high: u8) -> Result<usize, usize>
     ensures { result ≡ rest_at s.now i 0 low high }
 {
     if i < s.len() {
         if classes::within(low, high, s[i]) {
-            return Rest::End(i + 1);
+            return Ok(i + 1);
         }
     }
-    Rest::Fault(i)
+    Err(i)
 }
 
 // The last two bytes of a character.
-fn last_two(s: &[u8], i: usize, low: u8, high: u8) -> Rest
+fn last_two(s: &[u8], i: usize, low: u8, high: u8) -> Result<usize, usize>
     ensures { result ≡ rest_at s.now i 1 low high }
 {
     if i < s.len() {
@@ -97,11 +97,11 @@ fn last_two(s: &[u8], i: usize, low: u8, high: u8) -> Rest
             return last_byte(s, i + 1, 0x80, 0xbf);
         }
     }
-    Rest::Fault(i)
+    Err(i)
 }
 
 // The character that begins with a byte over 0x7F. Nearly all have two or three bytes: these come first, with what they ask for known to the compiler.
-fn character(s: &[u8], i: usize) -> Rest
+fn character(s: &[u8], i: usize) -> Result<usize, usize>
     requires { i < length s.now }
     ensures { result ≡ character_at s.now i }
 {
@@ -116,11 +116,9 @@ fn character(s: &[u8], i: usize) -> Rest
         return last_two(s, i + 1, 0x80, 0xbf);
     }
     match lead(b) {
-        Next::Stop => Rest::Fault(i),
-        Next::Is(due) => match due {
-            Due::Start => Rest::End(i + 1),
-            Due::Tail { more, low, high } => rest(s, i + 1, more, low, high),
-        },
+        None => Err(i),
+        Some(Due::Start) => Ok(i + 1),
+        Some(Due::Tail { more, low, high }) => rest(s, i + 1, more, low, high),
     }
 }
 
@@ -232,9 +230,9 @@ fn is_surely_value(s: &[u8], from: usize) -> bool
     sound_from(s, k)
 }
 
-// The first byte after which no ending makes a text, or the length where the text is only unfinished.
-pub fn scan(s: &[u8], k: Content) -> Scan
-    ensures { fault_of result ≡ spec.text_fault (content_byte k) Due.Start s.now }
+// The first byte after which no ending makes a text, or the length where the text is only unfinished; none where it is a text.
+pub fn scan(s: &[u8], k: Content) -> Option<usize>
+    ensures { result ≡ spec.text_fault (content_byte k) Due.Start s.now }
 {
     let mut i = classes::plain_end(s, 0);
     while i < s.len() {
@@ -245,30 +243,28 @@ pub fn scan(s: &[u8], k: Content) -> Scan
                 if may_stand(k, s[i]) {
                     i += 1;
                 } else {
-                    return Scan::Fault(i);
+                    return Some(i);
                 }
             } else {
                 match character(s, i) {
-                    Rest::End(j) => {
-                        i = j;
-                    }
-                    Rest::Fault(j) => return Scan::Fault(j),
+                    Ok(end) => i = end,
+                    Err(fault) => return Some(fault),
                 }
             }
         }
     }
-    Scan::Sound
+    None
 }
 
 // The same of a value that begins at a place and ends with the bytes; the fault counts from the place.
-pub fn scan_value(s: &[u8], from: usize) -> Scan
-    ensures { fault_of result ≡ spec.text_fault value_byte Due.Start (drop from s.now) }
+pub fn scan_value(s: &[u8], from: usize) -> Option<usize>
+    ensures { result ≡ spec.text_fault value_byte Due.Start (drop from s.now) }
 {
     if s.len() <= from {
-        return Scan::Sound;
+        return None;
     }
     if is_surely_value(s, from) {
-        return Scan::Sound;
+        return None;
     }
     scan(&s[from..], Content::Value)
 }

@@ -1,9 +1,7 @@
 -- `utf8::character` meets its contract: the first byte says what is due after it. Assumes nothing.
-use Rattle.std.specs.Prelude.{Some}
-use mathlib.Core.Path.{sym, ap, ◌∙◌}
-use Rattle.characters.specs.Step.{character_at, due_of}
+use mathlib.Core.Path.{sym, ◌∙◌}
+use Rattle.characters.specs.Step.{character_at}
 use Rattle.characters.specs.Utf8.{lead}
-use Rattle.characters.specs.declared.Due.{Due}
 use Rattle.characters.proofs.Letters.{lead-middle}
 use Rattle.characters.proofs.utf8.character.Goals as goal
 
@@ -19,14 +17,14 @@ pub returns-then-within-2 : goal.returns-then-within-2
 unfolding character_at
 returns-then-within-2 c = rw (lead-middle _ (sym c.within-2.ensures ∙ c.if-within-2.true)) c.last_two-then-within-2.ensures
 
-pub returns-in-Stop : goal.returns-in-Stop
+pub returns-in-None : goal.returns-in-None
 unfolding character_at
-returns-in-Stop c = rw (sym c.lead.ensures ∙ ap due_of c.in-Stop.is)
+returns-in-None c = rw (sym c.lead.ensures ∙ c.in-None.is)
 
-pub returns-in-Start : goal.returns-in-Start
+pub returns-in-Some-Start : goal.returns-in-Some-Start
 unfolding character_at
-returns-in-Start c = rw (sym c.lead.ensures ∙ ap due_of c.in-Is.is ∙ ap (λ (d : Due). Some d) c.in-Start.is)
+returns-in-Some-Start c = rw (sym c.lead.ensures ∙ c.in-Some-Start.is, c.in-Some-Start.field-0-is)
 
-pub returns-in-Tail : goal.returns-in-Tail
+pub returns-in-Some-Tail : goal.returns-in-Some-Tail
 unfolding character_at
-returns-in-Tail c = rw (sym c.lead.ensures ∙ ap due_of c.in-Is.is ∙ ap (λ (d : Due). Some d) c.in-Tail.is) c.rest.ensures
+returns-in-Some-Tail c = rw (sym c.lead.ensures ∙ c.in-Some-Tail.is, c.in-Some-Tail.field-0-is) c.rest.ensures

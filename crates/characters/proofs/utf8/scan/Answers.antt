@@ -38,7 +38,7 @@ pub loop-i-smaller : goal.loop-i-smaller
 loop-i-smaller c =
     let l = c.loop-i in
     let a = c.args in
-    let q = sym c.in-End.is ∙ c.character.ensures in
+    let q = sym c.in-Ok.is ∙ c.character.ensures in
     let e = rw (← q) at (character-ends a.s.now l.i (search rules)) in
     omega (arith, e.0, e.1)
 
@@ -46,16 +46,16 @@ pub loop-i-preserved : goal.loop-i-preserved
 loop-i-preserved c =
     let l = c.loop-i in
     let a = c.args in
-    let q = sym c.in-End.is ∙ c.character.ensures in
+    let q = sym c.in-Ok.is ∙ c.character.ensures in
     let e = rw (← q) at (character-ends a.s.now l.i (search rules)) in
     let g = rw (← q) at (character-goes a.s.now l.i (search rules) (content_byte a.k) c.if-s-i-lt128.false) in
     (sym g ∙ l.invariant.0, e.1)
 
-pub returns-in-Fault : goal.returns-in-Fault
-returns-in-Fault c =
+pub returns-in-Err : goal.returns-in-Err
+returns-in-Err c =
     let l = c.loop-i in
     let a = c.args in
-    let q = sym c.in-Fault.is ∙ c.character.ensures in
+    let q = sym c.in-Err.is ∙ c.character.ensures in
     let e = rw (← q) at (character-ends a.s.now l.i (search rules)) in
     let g = rw (← q) at (character-goes a.s.now l.i (search rules) (content_byte a.k) c.if-s-i-lt128.false) in
     sym g ∙ l.invariant.0
