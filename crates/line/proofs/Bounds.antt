@@ -1,5 +1,5 @@
 -- The bounds that a line's reading tells lie in the line, in their order. Assumes nothing.
-use Rattle.std.specs.Prelude.{Option, Some, None}
+use Rattle.std.specs.Prelude.{Option, Some, None, Result, Ok, Err}
 use mathlib.Core.Path.{◌≡◌, refl, sym}
 use Prim.Native.Nat.{ℕ, ◌+◌, ◌≤◌, ◌<◌}
 use native.Mathlib.Omega.{arith}
@@ -17,12 +17,9 @@ use Rattle.characters.specs.Utf8.{text_fault}
 use Rattle.characters.specs.declared.Due.TheVariants.{Start}
 use Rattle.characters.proofs.Utf8Laws.{FaultWithin, fault-within}
 use Rattle.line.specs.Locale.{locale_at}
-use Rattle.line.specs.Name.{byte_at, postfix_at, read_name}
+use Rattle.line.specs.Name.{byte_at, postfix_at, read_name, name_of}
 use Rattle.line.specs.Line.{entry_after, entry_of, read_entry, read_header, read_line}
-use Rattle.line.specs.declared.Locale.{Locale}
-use Rattle.line.specs.declared.Locale.TheVariants as locale
-use Rattle.line.specs.declared.Named.{Named}
-use Rattle.line.specs.declared.Named.TheVariants.{Name, NoName}
+use Rattle.line.specs.declared.Name.{Name}
 use Rattle.line.specs.declared.Line.{Line}
 use Rattle.line.specs.declared.Line.TheVariants.{Blank, Comment, Header, Entry, Bad}
 use Rattle.line.proofs.Cases.{sign_at, value_at, after_by, header_by}
@@ -34,21 +31,21 @@ byte-within s n b h e = inside s n b (sym (eqb-true (byte_at s n) b e)) h
 
 -- ---- names
 
-abbrev pub NamedWithin : ℕ → Named → Type 0
-NamedWithin n (Name key name) = (0 < key) × (key ≤ name) × (name ≤ n)
-NamedWithin n (NoName m) = m ≤ n
+abbrev pub NamedWithin : ℕ → Result Name ℕ → Type 0
+NamedWithin n (Ok m) = (0 < m.key) × (m.key ≤ m.name) × (m.name ≤ n)
+NamedWithin n (Err m) = m ≤ n
 
 postfix-within : (s : List ℕ) (key : ℕ) → 0 < key → key < length s → NamedWithin (length s) (postfix_at s key)
 postfix-within s key h k = rw (postfix-by s key) (go (locale_at (drop (key + 1) s)) (locale-within (drop (key + 1) s)))
   where
     at : (n : ℕ) (t : Bool) → key + 1 + n ≤ length s → eqb (byte_at s (key + 1 + n)) 93 ≡ t
-        → NamedWithin (length s) (pick t (Name key (key + 1 + n + 1)) (NoName (key + 1 + n)))
+        → NamedWithin (length s) (pick t (Ok (name_of key (key + 1 + n + 1))) (Err (key + 1 + n)))
     at n true i e = let j = byte-within s (key + 1 + n) 93 (omega arith) e in (h, omega arith, omega arith)
     at n false i e = i
 
-    go : (l : Locale) → LocaleWithin (length (drop (key + 1) s)) l → NamedWithin (length s) (postfix_of s key l)
-    go (locale.End n) i = at n (eqb (byte_at s (key + 1 + n)) 93) (omega (arith, length-drop (key + 1) s)) refl
-    go (locale.Unfinished n) i = omega (arith, length-drop (key + 1) s)
+    go : (l : Result ℕ ℕ) → LocaleWithin (length (drop (key + 1) s)) l → NamedWithin (length s) (postfix_of s key l)
+    go (Ok n) i = at n (eqb (byte_at s (key + 1 + n)) 93) (omega (arith, length-drop (key + 1) s)) refl
+    go (Err n) i = omega (arith, length-drop (key + 1) s)
 
 pub name-within : (s : List ℕ) → NamedWithin (length s) (read_name s)
 unfolding read_name
@@ -57,7 +54,7 @@ name-within s = go (eqb key 0) (eqb (byte_at s key) 91) refl refl
     key : ℕ
     key = span key_byte s
 
-    go : (t u : Bool) → eqb key 0 ≡ t → eqb (byte_at s key) 91 ≡ u → NamedWithin (length s) (pick t (NoName 0) (pick u (postfix_at s key) (Name key key)))
+    go : (t u : Bool) → eqb key 0 ≡ t → eqb (byte_at s key) 91 ≡ u → NamedWithin (length s) (pick t (Err 0) (pick u (postfix_at s key) (Ok (name_of key key))))
     go true u i j = omega arith
     go false true i j = let z = eqb-false key 0 i in postfix-within s key (omega arith) (byte-within s key 91 (omega arith) j)
     go false false i j = let z = eqb-false key 0 i in (omega arith, omega arith, span-le key_byte s)
@@ -93,9 +90,9 @@ entry-within : (s : List ℕ) → LineWithin (length s) (read_entry s)
 unfolding read_entry
 entry-within s = go (read_name s) (name-within s)
   where
-    go : (m : Named) → NamedWithin (length s) m → LineWithin (length s) (entry_of s m)
-    go (Name key name) h = after-within s key name h.0 h.1 h.2
-    go (NoName n) h = h
+    go : (m : Result Name ℕ) → NamedWithin (length s) m → LineWithin (length s) (entry_of s m)
+    go (Ok n) h = after-within s n.key n.name h.0 h.1 h.2
+    go (Err n) h = h
 
 header-within : (s : List ℕ) → 0 < length s → LineWithin (length s) (read_header s)
 unfolding read_header

@@ -1,5 +1,5 @@
 -- Readings by the tests that they make, for proofs by cases on what these say. Assumes nothing.
-use Rattle.std.specs.Prelude.{Option, Some, None}
+use Rattle.std.specs.Prelude.{Option, Some, None, Result, Ok, Err}
 use mathlib.Core.Path.{◌≡◌, refl}
 use Prim.Native.Nat.{ℕ, suc, ◌+◌}
 use mathlib.Core.Bool.{Bool, true, false}
@@ -12,8 +12,6 @@ use Rattle.base.proofs.Tests.{class-other}
 use Rattle.characters.specs.Class.{key_byte, space_byte, blank_byte}
 use Rattle.line.specs.Locale.{part_length}
 use Rattle.line.specs.Line.{read_entry, read_header, read_line}
-use Rattle.line.specs.declared.Locale.{Locale}
-use Rattle.line.specs.declared.Locale.TheVariants.{End, Unfinished}
 use Rattle.line.specs.declared.Line.{Line}
 use Rattle.line.specs.declared.Line.TheVariants.{Blank, Comment, Header, Entry, Bad}
 
@@ -31,9 +29,9 @@ abbrev pub modifier_of : List ℕ → ℕ
 modifier_of s = part_length 64 (drop (lang_of s + country_of s + encoding_of s) s)
 
 -- a locale by the lengths of its parts, and which is empty
-abbrev pub locale_by : (l n e m : ℕ) (t₁ t₂ t₃ t₄ : Bool) → Locale
+abbrev pub locale_by : (l n e m : ℕ) (t₁ t₂ t₃ t₄ : Bool) → Result ℕ ℕ
 locale_by l n e m t₁ t₂ t₃ t₄ =
-    maybe (pick t₁ (Some 0) (pick t₂ (Some (l + 1)) (pick t₃ (Some (l + n + 1)) (pick t₄ (Some (l + n + e + 1)) None)))) (End (l + n + e + m)) Unfinished
+    maybe (pick t₁ (Some 0) (pick t₂ (Some (l + 1)) (pick t₃ (Some (l + n + 1)) (pick t₄ (Some (l + n + e + 1)) None)))) (Ok (l + n + e + m)) Err
 
 -- after a name: where `=` is looked for, and where the value starts
 abbrev pub sign_at : List ℕ → ℕ → ℕ

@@ -1,5 +1,5 @@
 -- What stands before a bad line's byte: some ending makes a good line of it. Assumes nothing.
-use Rattle.std.specs.Prelude.{Option, Some, None}
+use Rattle.std.specs.Prelude.{Option, Some, None, Result, Ok, Err}
 use mathlib.Core.Path.{◌≡◌, refl, sym, ap, ◌∙◌}
 use Prim.Native.Nat.{ℕ, suc, ◌+◌, ◌≤◌, ◌<◌}
 use native.Mathlib.Omega.{arith}
@@ -18,14 +18,11 @@ use Rattle.characters.specs.Utf8.{text_fault}
 use Rattle.characters.specs.declared.Due.TheVariants.{Start}
 use Rattle.characters.proofs.Endings.{tail_byte, TextEnding, text-ending}
 use Rattle.line.specs.Locale.{part_length, parts, empty_part, locale_at}
-use Rattle.line.specs.Name.{byte_at, postfix_at, read_name}
+use Rattle.line.specs.Name.{byte_at, postfix_at, read_name, name_of}
 use Rattle.line.specs.Line.{entry_after, read_line, is_bad}
 use Rattle.line.specs.Place.{line_byte, Mended}
 use Rattle.line.specs.declared.Line.TheVariants.{Bad}
-use Rattle.line.specs.declared.Locale.{Locale}
-use Rattle.line.specs.declared.Locale.TheVariants.{End, Unfinished}
-use Rattle.line.specs.declared.Named.{Named}
-use Rattle.line.specs.declared.Named.TheVariants.{Name, NoName}
+use Rattle.line.specs.declared.Name.{Name}
 use Rattle.line.proofs.Locales.{postfix_of, postfix-by}
 use Rattle.line.proofs.Fronts.{byte-same, NoPart, lang-same, country-same, encoding-same, locale-same, NoKey, name-same, after_same}
 use Rattle.line.proofs.Cases.{lang_of, country_of, encoding_of, modifier_of, locale_by, sign_at, value_at, after_by}
@@ -33,13 +30,13 @@ use Rattle.line.proofs.Cases.{lang_of, country_of, encoding_of, modifier_of, loc
 -- ---- locales: 97 is `a`, 93 `]`, 61 `=`
 
 -- a locale that ends with the front, before `]`
-locale-ended : (w p v : List ℕ) → locale_at (p ++ v) ≡ End (length p) → locale_at (p ++ (93 ∷ w)) ≡ End (length p)
+locale-ended : (w p v : List ℕ) → locale_at (p ++ v) ≡ Ok (length p) → locale_at (p ++ (93 ∷ w)) ≡ Ok (length p)
 unfolding span part_length key_byte
 locale-ended w p v e =
     locale-same (93 ∷ w) p v (rw e (omega arith, λ _. record { key = refl; country = refl; encoding = refl; modifier = refl })) ∙ e
 
 -- a locale of one byte
-locale-one : (w p : List ℕ) → length p ≡ 0 → locale_at (p ++ (97 ∷ 93 ∷ w)) ≡ End (length p + 1)
+locale-one : (w p : List ℕ) → length p ≡ 0 → locale_at (p ++ (97 ∷ 93 ∷ w)) ≡ Ok (length p + 1)
 unfolding locale_at empty_part parts span part_length key_byte
 locale-one w [] h = refl
 locale-one w (b ∷ p) h = absurd (omega arith)
@@ -70,7 +67,7 @@ module _ (w p v : List ℕ) where
   mark-past mark n h e = rw (h, drop-append-add p (97 ∷ 93 ∷ w) 1, e)
 
   -- one byte of a key is what the locale lacks
-  locale-closed : locale_at (p ++ v) ≡ Unfinished (length p) → locale_at closed ≡ End (length p + 1)
+  locale-closed : locale_at (p ++ v) ≡ Err (length p) → locale_at closed ≡ Ok (length p + 1)
   unfolding locale_at empty_part parts
   locale-closed i = go (eqb l 0) (eqb n 1) (eqb e 1) (eqb m 1) refl refl refl refl i
     where
@@ -95,72 +92,72 @@ module _ (w p v : List ℕ) where
       encoding : l + n + e < length p → part_length 46 (drop (l + n) closed) ≡ e
       encoding h = encoding-same (97 ∷ 93 ∷ w) p v (cut_inside (NoPart (97 ∷ 93 ∷ w)) p (l + n + e) h)
 
-      go : (t₁ t₂ t₃ t₄ : Bool) → eqb l 0 ≡ t₁ → eqb n 1 ≡ t₂ → eqb e 1 ≡ t₃ → eqb m 1 ≡ t₄ → locale_by l n e m t₁ t₂ t₃ t₄ ≡ Unfinished (length p) → locale_at closed ≡ End (length p + 1)
+      go : (t₁ t₂ t₃ t₄ : Bool) → eqb l 0 ≡ t₁ → eqb n 1 ≡ t₂ → eqb e 1 ≡ t₃ → eqb m 1 ≡ t₄ → locale_by l n e m t₁ t₂ t₃ t₄ ≡ Err (length p) → locale_at closed ≡ Ok (length p + 1)
       go true t₂ t₃ t₄ i₁ i₂ i₃ i₄ i =
           let k : ◌≡◌ {A = ℕ} 0 (length p) = cc in
           locale-one w p (sym k)
       go false true t₃ t₄ i₁ i₂ i₃ i₄ i =
           let k : l + 1 ≡ length p = cc in
-          rw (lang (omega arith), i₁, mark-at 95 l k (eqb-true n 1 i₂), mark-past 46 (l + 2) (omega arith) refl, mark-past 64 (l + 2 + 0) (omega arith) refl) (ap End (omega arith))
+          rw (lang (omega arith), i₁, mark-at 95 l k (eqb-true n 1 i₂), mark-past 46 (l + 2) (omega arith) refl, mark-past 64 (l + 2 + 0) (omega arith) refl) (ap Ok (omega arith))
       go false false true t₄ i₁ i₂ i₃ i₄ i =
           let k : l + n + 1 ≡ length p = cc in
-          rw (lang (omega arith), i₁, country (omega arith), i₂, mark-at 46 (l + n) k (eqb-true e 1 i₃), mark-past 64 (l + n + 2) (omega arith) refl) (ap End (omega arith))
+          rw (lang (omega arith), i₁, country (omega arith), i₂, mark-at 46 (l + n) k (eqb-true e 1 i₃), mark-past 64 (l + n + 2) (omega arith) refl) (ap Ok (omega arith))
       go false false false true i₁ i₂ i₃ i₄ i =
           let k : l + n + e + 1 ≡ length p = cc in
-          rw (lang (omega arith), i₁, country (omega arith), i₂, encoding (omega arith), i₃, mark-at 64 (l + n + e) k (eqb-true m 1 i₄)) (ap End (omega arith))
+          rw (lang (omega arith), i₁, country (omega arith), i₂, encoding (omega arith), i₃, mark-at 64 (l + n + e) k (eqb-true m 1 i₄)) (ap Ok (omega arith))
       go false false false false i₁ i₂ i₃ i₄ i = no (cc)
 
 -- ---- names
 
 -- bytes that close the postfix which a front began
-pub record Closing (read : List ℕ → Named) (p : List ℕ) : Type 0 where
+pub record Closing (read : List ℕ → Result Name ℕ) (p : List ℕ) : Type 0 where
   pub close : List ℕ
   pub bytes : all line_byte (close ++ (61 ∷ [])) ≡ true
   pub key : ℕ
-  pub named : read (p ++ (close ++ (61 ∷ []))) ≡ Name key (length p + length close)
+  pub named : read (p ++ (close ++ (61 ∷ []))) ≡ Ok (name_of key (length p + length close))
 
 -- a postfix whose `]` stands at a place of the ending
-postfix-named : (p x : List ℕ) (key m : ℕ) → key < length p → locale_at (drop (key + 1) p ++ x) ≡ End (length (drop (key + 1) p) + m) → eqb (byte_at x m) 93 ≡ true
-    → postfix_at (p ++ x) key ≡ Name key (length p + m + 1)
+postfix-named : (p x : List ℕ) (key m : ℕ) → key < length p → locale_at (drop (key + 1) p ++ x) ≡ Ok (length (drop (key + 1) p) + m) → eqb (byte_at x m) 93 ≡ true
+    → postfix_at (p ++ x) key ≡ Ok (name_of key (length p + m + 1))
 postfix-named p x key m h e b =
     let z : key + 1 + (length (drop (key + 1) p) + m) ≡ length p + m = omega (arith, length-drop (key + 1) p) in
     postfix-by (p ++ x) key ∙ rw (drop-append-le (key + 1) p x (omega arith), e, z, get_or-append-add p x m 0, b)
 
-postfix-closed : (p v : List ℕ) (key : ℕ) → postfix_at (p ++ v) key ≡ NoName (length p) → (key < length p) × Closing (λ s. postfix_at s key) p
+postfix-closed : (p v : List ℕ) (key : ℕ) → postfix_at (p ++ v) key ≡ Err (length p) → (key < length p) × Closing (λ s. postfix_at s key) p
 unfolding all
 postfix-closed p v key e = go (locale_at (drop (key + 1) (p ++ v))) refl (sym (postfix-by (p ++ v) key) ∙ e)
   where
     q : List ℕ
     q = drop (key + 1) p
 
-    front : (n : ℕ) (f : ℕ → Locale) → key + 1 + n ≡ length p → locale_at (drop (key + 1) (p ++ v)) ≡ f n → locale_at (q ++ v) ≡ f (length q)
+    front : (n : ℕ) (f : ℕ → Result ℕ ℕ) → key + 1 + n ≡ length p → locale_at (drop (key + 1) (p ++ v)) ≡ f n → locale_at (q ++ v) ≡ f (length q)
     front n f k i = let z : n ≡ length q = omega (arith, length-drop (key + 1) p) in rw (← drop-append-le (key + 1) p v (omega arith)) (i ∙ ap f z)
 
-    ended : (n : ℕ) (t : Bool) → locale_at (drop (key + 1) (p ++ v)) ≡ End n → pick t (Name key (key + 1 + n + 1)) (NoName (key + 1 + n)) ≡ NoName (length p)
+    ended : (n : ℕ) (t : Bool) → locale_at (drop (key + 1) (p ++ v)) ≡ Ok n → pick t (Ok (name_of key (key + 1 + n + 1))) (Err (key + 1 + n)) ≡ Err (length p)
         → (key < length p) × Closing (λ s. postfix_at s key) p
     ended n true i e = no (cc)
     ended n false i e =
         let k : key + 1 + n ≡ length p = cc in
         let h : key < length p = omega arith in
-        let l : locale_at (q ++ (93 ∷ 61 ∷ [])) ≡ End (length q + 0) = locale-ended (61 ∷ []) q v (front n End k i) ∙ ap End (omega arith) in
-        (h, record { close = 93 ∷ []; bytes = refl; key = key; named = postfix-named p (93 ∷ 61 ∷ []) key 0 h l refl ∙ ap (Name key) (omega arith) })
+        let l : locale_at (q ++ (93 ∷ 61 ∷ [])) ≡ Ok (length q + 0) = locale-ended (61 ∷ []) q v (front n Ok k i) ∙ ap Ok (omega arith) in
+        (h, record { close = 93 ∷ []; bytes = refl; key = key; named = postfix-named p (93 ∷ 61 ∷ []) key 0 h l refl ∙ ap (λ (n : ℕ). Ok (name_of key n)) (omega arith) })
 
-    go : (l : Locale) → locale_at (drop (key + 1) (p ++ v)) ≡ l → postfix_of (p ++ v) key l ≡ NoName (length p) → (key < length p) × Closing (λ s. postfix_at s key) p
-    go (End n) i e = ended n (eqb (byte_at (p ++ v) (key + 1 + n)) 93) i e
-    go (Unfinished n) i e =
+    go : (l : Result ℕ ℕ) → locale_at (drop (key + 1) (p ++ v)) ≡ l → postfix_of (p ++ v) key l ≡ Err (length p) → (key < length p) × Closing (λ s. postfix_at s key) p
+    go (Ok n) i e = ended n (eqb (byte_at (p ++ v) (key + 1 + n)) 93) i e
+    go (Err n) i e =
         let k : key + 1 + n ≡ length p = cc in
         let h : key < length p = omega arith in
-        let l = locale-closed (61 ∷ []) q v (front n Unfinished k i) in
-        (h, record { close = 97 ∷ 93 ∷ []; bytes = refl; key = key; named = postfix-named p (97 ∷ 93 ∷ 61 ∷ []) key 1 h l refl ∙ ap (Name key) (omega arith) })
+        let l = locale-closed (61 ∷ []) q v (front n Err k i) in
+        (h, record { close = 97 ∷ 93 ∷ []; bytes = refl; key = key; named = postfix-named p (97 ∷ 93 ∷ 61 ∷ []) key 1 h l refl ∙ ap (λ (n : ℕ). Ok (name_of key n)) (omega arith) })
 
-pub name-closed : (p v : List ℕ) → 0 < length p → read_name (p ++ v) ≡ NoName (length p) → Closing read_name p
+pub name-closed : (p v : List ℕ) → 0 < length p → read_name (p ++ v) ≡ Err (length p) → Closing read_name p
 unfolding read_name
 name-closed p v h e = go (eqb n 0) (eqb (byte_at (p ++ v) n) 91) refl refl e
   where
     n : ℕ
     n = span key_byte (p ++ v)
 
-    go : (t u : Bool) → eqb n 0 ≡ t → eqb (byte_at (p ++ v) n) 91 ≡ u → pick t (NoName 0) (pick u (postfix_at (p ++ v) n) (Name n n)) ≡ NoName (length p) → Closing read_name p
+    go : (t u : Bool) → eqb n 0 ≡ t → eqb (byte_at (p ++ v) n) 91 ≡ u → pick t (Err 0) (pick u (postfix_at (p ++ v) n) (Ok (name_of n n))) ≡ Err (length p) → Closing read_name p
     go true u i j e = let k : ◌≡◌ {A = ℕ} 0 (length p) = cc in absurd (omega arith)
     go false true i j e =
         let r = postfix-closed p v n e in
@@ -191,8 +188,8 @@ pub sign-next : (p : List ℕ) → sign_at (p ++ (61 ∷ [])) (length p) ≡ len
 unfolding span
 sign-next p = rw (drop-append_seam p (61 ∷ [])) (omega arith)
 
-pub after-mended : (p v : List ℕ) (key name : ℕ) → read_name (p ++ v) ≡ Name key name
-    → ((t : List ℕ) → read_name (p ++ t) ≡ Name key name → is_bad (read_line (p ++ t)) ≡ is_bad (entry_after (p ++ t) key name))
+pub after-mended : (p v : List ℕ) (key name : ℕ) → read_name (p ++ v) ≡ Ok (name_of key name)
+    → ((t : List ℕ) → read_name (p ++ t) ≡ Ok (name_of key name) → is_bad (read_line (p ++ t)) ≡ is_bad (entry_after (p ++ t) key name))
     → entry_after (p ++ v) key name ≡ Bad (length p) → Mended p
 unfolding entry_after span key_byte all
 after-mended p v key name a f e = go (eqb (byte_at (p ++ v) sign) 61) (text_fault value_byte Start (drop value (p ++ v))) refl refl e
@@ -213,7 +210,7 @@ after-mended p v key name a f e = go (eqb (byte_at (p ++ v) sign) 61) (text_faul
     go false o i j e =
         let k : sign ≡ length p = cc in
         let w : List ℕ = 61 ∷ [] in
-        let b : read_name (p ++ w) ≡ Name key name = name-same w p v (rw a (omega arith, λ _. record { key = refl; postfix = refl })) ∙ a in
+        let b : read_name (p ++ w) ≡ Ok (name_of key name) = name-same w p v (rw a (omega arith, λ _. record { key = refl; postfix = refl })) ∙ a in
         record {
           ending = w;
           bytes = refl;
@@ -225,7 +222,7 @@ after-mended p v key name a f e = go (eqb (byte_at (p ++ v) sign) 61) (text_faul
         let t = text m k j in
         let w = t.ending in
         let z : span space_byte w ≡ 0 = span_none tail_byte space_byte (λ b. class-other tail_byte b 32 refl) w t.bytes in
-        let b : read_name (p ++ w) ≡ Name key name = name-same w p v (rw a (cut_inside (NoKey w) p name (omega arith))) ∙ a in
+        let b : read_name (p ++ w) ≡ Ok (name_of key name) = name-same w p v (rw a (cut_inside (NoKey w) p name (omega arith))) ∙ a in
         record {
           ending = w;
           bytes = all_weaker tail_byte line_byte tail-line w t.bytes;

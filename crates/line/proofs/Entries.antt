@@ -1,5 +1,5 @@
 -- What the reading of an entry and of a name says, fact by fact, and back. Assumes nothing.
-use Rattle.std.specs.Prelude.{Option, Some, None}
+use Rattle.std.specs.Prelude.{Option, Some, None, Result, Ok, Err}
 use mathlib.Core.Path.{◌≡◌, refl, sym, ap, ◌∙◌}
 use Prim.Native.Nat.{ℕ, ◌+◌}
 use native.Mathlib.Omega.{arith}
@@ -15,10 +15,9 @@ use Rattle.characters.specs.Class.{key_byte, group_byte, blank_byte, value_byte}
 use Rattle.characters.specs.Utf8.{text_fault}
 use Rattle.characters.specs.declared.Due.TheVariants.{Start}
 use Rattle.line.specs.Locale.{parts, locale_end, empty_part}
-use Rattle.line.specs.Name.{byte_at, postfix_at, read_name}
+use Rattle.line.specs.Name.{byte_at, postfix_at, read_name, name_of}
 use Rattle.line.specs.Line.{entry_after, entry_of, read_entry, read_header, read_line}
-use Rattle.line.specs.declared.Named.{Named}
-use Rattle.line.specs.declared.Named.TheVariants.{Name, NoName}
+use Rattle.line.specs.declared.Name.{Name}
 use Rattle.line.specs.declared.Line.TheVariants.{Blank, Comment, Header, Entry, Bad}
 use Rattle.line.proofs.Bounds.{name-within}
 use Rattle.line.proofs.Cases.{sign_at, value_at}
@@ -30,7 +29,7 @@ pub record IsEntry (s : List ℕ) (key name value : ℕ) : Type 0 where
   pub no-blank : eqb (span blank_byte s) 0 ≡ true
   pub no-comment : eqb (byte_at s 0) 35 ≡ false
   pub no_header : eqb (byte_at s 0) 91 ≡ false
-  pub named : read_name s ≡ Name key name
+  pub named : read_name s ≡ Ok (name_of key name)
   pub sign : eqb (byte_at s (sign_at s name)) 61 ≡ true
   pub starts : value ≡ value_at s name
   pub text : text_fault value_byte Start (drop value s) ≡ None
@@ -70,10 +69,10 @@ unfolding read_line read_entry
 is-entry s key name value e =
     by (eqb (span blank_byte s) (length s)) (eqb (byte_at s 0) 35) (eqb (byte_at s 0) 91) (eqb (span blank_byte s) 0) refl refl refl refl e
   where
-    made : (m : Named) → read_name s ≡ m → entry_of s m ≡ Entry key name value → eqb (span blank_byte s) (length s) ≡ false → eqb (byte_at s 0) 35 ≡ false
+    made : (m : Result Name ℕ) → read_name s ≡ m → entry_of s m ≡ Entry key name value → eqb (span blank_byte s) (length s) ≡ false → eqb (byte_at s 0) 35 ≡ false
         → eqb (byte_at s 0) 91 ≡ false → eqb (span blank_byte s) 0 ≡ true → IsEntry s key name value
-    made (Name k n) m e t₁ t₂ t₃ t₄ =
-        let a = is-after s k n key name value e in
+    made (Ok n) m e t₁ t₂ t₃ t₄ =
+        let a = is-after s n.key n.name key name value e in
         record {
           some_byte = t₁;
           no-blank = t₄;
@@ -84,7 +83,7 @@ is-entry s key name value e =
           starts = rw (← a.name-is) a.after-starts;
           text = rw a.after-starts a.after_text;
         }
-    made (NoName n) m e t₁ t₂ t₃ t₄ = no (cc)
+    made (Err n) m e t₁ t₂ t₃ t₄ = no (cc)
 
     by : (a b c d : Bool) → eqb (span blank_byte s) (length s) ≡ a → eqb (byte_at s 0) 35 ≡ b → eqb (byte_at s 0) 91 ≡ c → eqb (span blank_byte s) 0 ≡ d
         → pick a Blank (pick b Comment (pick c (read_header s) (pick d (entry_of s (read_name s)) (Bad (span blank_byte s))))) ≡ Entry key name value → IsEntry s key name value
@@ -112,7 +111,7 @@ pub data IsName (s : List ℕ) (key name : ℕ) : Type 0 where
   postfixed : key ≡ span key_byte s → eqb key 0 ≡ false → eqb (byte_at s key) 91 ≡ true → empty_part (parts (drop (key + 1) s)) ≡ None
       → eqb (byte_at s (bracket s key)) 93 ≡ true → name ≡ bracket s key + 1 → IsName s key name
 
-pub is_name_lem : (s : List ℕ) (key name : ℕ) → read_name s ≡ Name key name → IsName s key name
+pub is_name_lem : (s : List ℕ) (key name : ℕ) → read_name s ≡ Ok (name_of key name) → IsName s key name
 unfolding read_name postfix_at
 is_name_lem s key name e =
     by (eqb (span key_byte s) 0) (eqb (byte_at s (span key_byte s)) 91) (empty_part (parts (drop (span key_byte s + 1) s))) (eqb (byte_at s (bracket s (span key_byte s))) 93) refl refl refl refl e
@@ -121,20 +120,22 @@ is_name_lem s key name e =
     k = span key_byte s
 
     by : (a b : Bool) (o : Option ℕ) (c : Bool) → eqb k 0 ≡ a → eqb (byte_at s k) 91 ≡ b → empty_part (parts (drop (k + 1) s)) ≡ o → eqb (byte_at s (bracket s k)) 93 ≡ c
-        → pick a (NoName 0) (pick b (maybe o (pick c (Name k (bracket s k + 1)) (NoName (bracket s k))) (λ n. NoName (k + 1 + n))) (Name k k)) ≡ Name key name → IsName s key name
+        → pick a (Err 0) (pick b (maybe o (pick c (Ok (name_of k (bracket s k + 1))) (Err (bracket s k))) (λ n. Err (k + 1 + n))) (Ok (name_of k k))) ≡ Ok (name_of key name) → IsName s key name
     by true b o c t₁ t₂ t₃ t₄ e = no (cc)
     by false true None true t₁ t₂ t₃ t₄ e =
-        let i : k ≡ key = cc in
-        let j : name ≡ bracket s k + 1 = cc in
+        let n : name_of k (bracket s k + 1) ≡ name_of key name = cc in
+        let i : k ≡ key = ap (λ (n : Name). n.key) n in
+        let j : name ≡ bracket s k + 1 = sym (ap (λ (n : Name). n.name) n) in
         postfixed (sym i) (rw (← i) t₁) (rw (← i) t₂) (rw (← i) t₃) (rw (← i) t₄) (rw (← i) j)
     by false true None false t₁ t₂ t₃ t₄ e = no (cc)
     by false true (Some n) c t₁ t₂ t₃ t₄ e = no (cc)
     by false false o c t₁ t₂ t₃ t₄ e =
-        let i : k ≡ key = cc in
-        let j : k ≡ name = cc in
+        let n : name_of k k ≡ name_of key name = cc in
+        let i : k ≡ key = ap (λ (n : Name). n.key) n in
+        let j : k ≡ name = ap (λ (n : Name). n.name) n in
         plain-name (sym i) (rw (← i) t₁) (rw (← i) t₂) (sym j ∙ i)
 
-pub name-is : (s : List ℕ) (key name : ℕ) → IsName s key name → read_name s ≡ Name key name
+pub name-is : (s : List ℕ) (key name : ℕ) → IsName s key name → read_name s ≡ Ok (name_of key name)
 unfolding read_name postfix_at
 name-is s key name (plain-name i t₁ t₂ j) = rw (← i, t₁, t₂, j)
 name-is s key name (postfixed i t₁ t₂ t₃ t₄ j) = rw (← i, t₁, t₂, t₃, t₄, j)

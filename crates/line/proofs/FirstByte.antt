@@ -1,5 +1,5 @@
 -- What the first byte of a line says of its reading. Assumes nothing.
-use Rattle.std.specs.Prelude.{Option, Some, None}
+use Rattle.std.specs.Prelude.{Option, Some, None, Result, Ok, Err}
 use mathlib.Core.Path.{◌≡◌, refl, sym, ◌∙◌}
 use Prim.Native.Nat.{ℕ, suc, ◌+◌, ◌<◌}
 use native.Mathlib.Omega.{arith}
@@ -14,10 +14,9 @@ use Rattle.base.proofs.Span.{span-zero, span-some}
 use Rattle.characters.specs.Class.{key_byte, group_byte, space_byte, blank_byte, value_byte}
 use Rattle.characters.specs.Utf8.{text_fault}
 use Rattle.characters.specs.declared.Due.TheVariants.{Start}
-use Rattle.line.specs.Name.{byte_at, read_name}
+use Rattle.line.specs.Name.{byte_at, read_name, name_of}
 use Rattle.line.specs.Line.{entry_after, entry_of, read_entry, read_header, read_line}
-use Rattle.line.specs.declared.Named.{Named}
-use Rattle.line.specs.declared.Named.TheVariants.{Name, NoName}
+use Rattle.line.specs.declared.Name.{Name}
 use Rattle.line.specs.declared.Line.{Line}
 use Rattle.line.specs.declared.Line.TheVariants.{Blank, Comment, Header, Entry, Bad}
 
@@ -56,13 +55,13 @@ headed-line s e = rw (header-line s e) (header-headed s)
 
 -- it is no header, and an entry has the name that stands at its front
 abbrev pub Unheaded : List ℕ → Line → Type 0
-Unheaded s Blank = read_name s ≡ NoName 0
-Unheaded s Comment = read_name s ≡ NoName 0
+Unheaded s Blank = read_name s ≡ Err 0
+Unheaded s Comment = read_name s ≡ Err 0
 Unheaded s (Header e) = ⊥
-Unheaded s (Entry key name value) = read_name s ≡ Name key name
+Unheaded s (Entry key name value) = read_name s ≡ Ok (name_of key name)
 Unheaded s (Bad n) = Unit
 
-pub no_name : (b : ℕ) (s : List ℕ) → key_byte b ≡ false → read_name (b ∷ s) ≡ NoName 0
+pub no_name : (b : ℕ) (s : List ℕ) → key_byte b ≡ false → read_name (b ∷ s) ≡ Err 0
 unfolding read_name span
 no_name b s e = rw e
 
@@ -74,21 +73,21 @@ blank-unnamed b = go (eqb b 32) refl
     go true e i = let z : b ≡ 32 = eqb-true b 32 e in rw z
     go false e i = let z : b ≡ 9 = eqb-true b 9 i in rw z
 
-blank-name : (s : List ℕ) → eqb (span blank_byte s) (length s) ≡ true → read_name s ≡ NoName 0
+blank-name : (s : List ℕ) → eqb (span blank_byte s) (length s) ≡ true → read_name s ≡ Err 0
 unfolding span
 blank-name [] e = unfold read_name in refl
 blank-name (b ∷ s) e = go (blank_byte b) refl e
   where
-    go : (t : Bool) → blank_byte b ≡ t → eqb (pick t (suc (span blank_byte s)) 0) (suc (length s)) ≡ true → read_name (b ∷ s) ≡ NoName 0
+    go : (t : Bool) → blank_byte b ≡ t → eqb (pick t (suc (span blank_byte s)) 0) (suc (length s)) ≡ true → read_name (b ∷ s) ≡ Err 0
     go true i e = no_name b s (blank-unnamed b i)
     go false i e = absurd (false≢true (sym (eqb-zero-suc (length s)) ∙ e))
 
-comment-name : (s : List ℕ) → eqb (byte_at s 0) 35 ≡ true → read_name s ≡ NoName 0
+comment-name : (s : List ℕ) → eqb (byte_at s 0) 35 ≡ true → read_name s ≡ Err 0
 unfolding key_byte
 comment-name [] e = absurd (false≢true e)
 comment-name (b ∷ s) e = let z : b ≡ 35 = eqb-true b 35 e in no_name b s (rw z)
 
-after-unheaded : (s : List ℕ) (key name : ℕ) → read_name s ≡ Name key name → Unheaded s (entry_after s key name)
+after-unheaded : (s : List ℕ) (key name : ℕ) → read_name s ≡ Ok (name_of key name) → Unheaded s (entry_after s key name)
 unfolding entry_after
 after-unheaded s key name e = go (eqb (byte_at s sign) 61) (text_fault value_byte Start (drop value s))
   where
@@ -107,9 +106,9 @@ entry-unheaded : (s : List ℕ) → Unheaded s (read_entry s)
 unfolding read_entry
 entry-unheaded s = go (read_name s) refl
   where
-    go : (m : Named) → read_name s ≡ m → Unheaded s (entry_of s m)
-    go (Name key name) e = after-unheaded s key name e
-    go (NoName n) e = tt
+    go : (m : Result Name ℕ) → read_name s ≡ m → Unheaded s (entry_of s m)
+    go (Ok n) e = after-unheaded s n.key n.name e
+    go (Err n) e = tt
 
 pub unheaded-line : (s : List ℕ) → eqb (byte_at s 0) 91 ≡ false → Unheaded s (read_line s)
 unfolding read_line

@@ -1,4 +1,5 @@
 -- A line's front with another ending: what was read in the front stays. Assumes nothing.
+use Rattle.std.specs.Prelude.{Result, Ok, Err}
 use mathlib.Core.Path.{◌≡◌, refl, sym, ap, ◌∙◌}
 use Prim.Native.Nat.{ℕ, suc, ◌+◌, ◌≤◌, ◌<◌}
 use native.Mathlib.Omega.{arith}
@@ -16,12 +17,9 @@ use Rattle.characters.specs.Class.{key_byte, space_byte, value_byte}
 use Rattle.characters.specs.Utf8.{text_fault}
 use Rattle.characters.specs.declared.Due.TheVariants.{Start}
 use Rattle.line.specs.Locale.{part_length, parts, empty_part, locale_at}
-use Rattle.line.specs.Name.{byte_at, postfix_at, read_name}
+use Rattle.line.specs.Name.{byte_at, postfix_at, read_name, name_of}
 use Rattle.line.specs.Line.{entry_after}
-use Rattle.line.specs.declared.Locale.{Locale}
-use Rattle.line.specs.declared.Locale.TheVariants.{End, Unfinished}
-use Rattle.line.specs.declared.Named.{Named}
-use Rattle.line.specs.declared.Named.TheVariants.{Name, NoName}
+use Rattle.line.specs.declared.Name.{Name}
 use Rattle.line.proofs.Locales.{postfix_of, postfix-by}
 use Rattle.line.proofs.Cases.{lang_of, country_of, encoding_of, modifier_of, locale_by, sign_at, value_at, after_by}
 
@@ -68,9 +66,9 @@ module _ (w p v : List ℕ) where
   modifier-same c = marked-at 64 (lang_of (p ++ v) + country_of (p ++ v) + encoding_of (p ++ v)) (λ s. s.modifier) c
 
 -- where a locale's reading stopped
-abbrev pub locale_place : Locale → ℕ
-locale_place (End n) = n
-locale_place (Unfinished n) = n
+abbrev pub locale_place : Result ℕ ℕ → ℕ
+locale_place (Ok n) = n
+locale_place (Err n) = n
 
 pub locale-same : (w : List ℕ) → Sames locale_place locale_at w (NoPart w)
 unfolding locale_at empty_part parts
@@ -120,9 +118,9 @@ locale-same w p v c = go (eqb l 0) (eqb n 1) (eqb e 1) (eqb m 1) refl refl refl 
 -- ---- names
 
 -- a name's reading stopped in the front, and at its end only where the ending stops a name
-abbrev pub NameCut : Type 0 → List ℕ → Named → Type 0
-NameCut stops p (Name key name) = Cut stops p name
-NameCut stops p (NoName n) = n < length p
+abbrev pub NameCut : Type 0 → List ℕ → Result Name ℕ → Type 0
+NameCut stops p (Ok n) = Cut stops p n.name
+NameCut stops p (Err n) = n < length p
 
 postfix-same : (stops : Type 0) (w p v : List ℕ) (key : ℕ) → NameCut stops p (postfix_at (p ++ v) key) → (key < length p) × (postfix_at (p ++ w) key ≡ postfix_at (p ++ v) key)
 postfix-same stops w p v key c = rw (postfix-by (p ++ v) key) (go (locale_at (drop (key + 1) (p ++ v))) refl (rw (postfix-by (p ++ v) key) at c))
@@ -131,13 +129,13 @@ postfix-same stops w p v key c = rw (postfix-by (p ++ v) key) (go (locale_at (dr
         → locale_at (drop (key + 1) (p ++ w)) ≡ locale_at (drop (key + 1) (p ++ v))
     locale n i h = same_at locale_place locale_at w (NoPart w) (locale-same w) p v (key + 1) (cut_inside (NoPart w) p _ (omega arith))
 
-    bracket : (n : ℕ) (t : Bool) → NameCut stops p (pick t (Name key (key + 1 + n + 1)) (NoName (key + 1 + n))) → key + 1 + n < length p
+    bracket : (n : ℕ) (t : Bool) → NameCut stops p (pick t (Ok (name_of key (key + 1 + n + 1))) (Err (key + 1 + n))) → key + 1 + n < length p
     bracket n true c = omega (arith, c.0)
     bracket n false c = c
 
-    go : (l : Locale) → locale_at (drop (key + 1) (p ++ v)) ≡ l → NameCut stops p (postfix_of (p ++ v) key l) → (key < length p) × (postfix_at (p ++ w) key ≡ postfix_of (p ++ v) key l)
-    go (Unfinished n) i c = (omega arith, postfix-by (p ++ w) key ∙ rw (locale n (ap locale_place i) c ∙ i))
-    go (End n) i c =
+    go : (l : Result ℕ ℕ) → locale_at (drop (key + 1) (p ++ v)) ≡ l → NameCut stops p (postfix_of (p ++ v) key l) → (key < length p) × (postfix_at (p ++ w) key ≡ postfix_of (p ++ v) key l)
+    go (Err n) i c = (omega arith, postfix-by (p ++ w) key ∙ rw (locale n (ap locale_place i) c ∙ i))
+    go (Ok n) i c =
         let h = bracket n (eqb (byte_at (p ++ v) (key + 1 + n)) 93) c in
         (omega arith, postfix-by (p ++ w) key ∙ rw (locale n (ap locale_place i) h ∙ i, byte-same p v w (key + 1 + n) h))
 
@@ -164,8 +162,8 @@ name-same w p v c = go (eqb n 0) (eqb (byte_at (p ++ v) n) 91) refl refl c
         let e : n ≡ length p + 0 = omega (arith, ltb-false n (length p) t) in
         rw (e, get_or-append-add p w 0 0) (c.1 (omega arith)).postfix)
 
-    go : (t u : Bool) → eqb n 0 ≡ t → eqb (byte_at (p ++ v) n) 91 ≡ u → NameCut (NoKey w) p (pick t (NoName 0) (pick u (postfix_at (p ++ v) n) (Name n n)))
-        → read_name (p ++ w) ≡ pick t (NoName 0) (pick u (postfix_at (p ++ v) n) (Name n n))
+    go : (t u : Bool) → eqb n 0 ≡ t → eqb (byte_at (p ++ v) n) 91 ≡ u → NameCut (NoKey w) p (pick t (Err 0) (pick u (postfix_at (p ++ v) n) (Ok (name_of n n))))
+        → read_name (p ++ w) ≡ pick t (Err 0) (pick u (postfix_at (p ++ v) n) (Ok (name_of n n)))
     go true u i j c = rw (key (cut_inside (NoKey w) p n (omega (arith, eqb-true n 0 i))), i)
     go false true i j c =
         let r = postfix-same (NoKey w) w p v n c in

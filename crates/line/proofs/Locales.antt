@@ -1,5 +1,5 @@
 -- A locale at the front of a list: its parts stay inside, and what asks for one asks `locale_at`. Assumes nothing.
-use Rattle.std.specs.Prelude.{Option, Some, None}
+use Rattle.std.specs.Prelude.{Option, Some, None, Result, Ok, Err}
 use mathlib.Core.Path.{◌≡◌, refl, sym, ap, ◌∙◌}
 use Prim.Native.Nat.{ℕ, zero, suc, ◌+◌, ◌-◌, ◌≤◌, ◌<◌}
 use native.Mathlib.Omega.{arith}
@@ -15,12 +15,9 @@ use Rattle.base.proofs.Span.{span-le}
 use Rattle.base.proofs.Tail.{tail-lent}
 use Rattle.characters.specs.Class.{key_byte}
 use Rattle.line.specs.Locale.{part_length, parts, locale_end, empty_part, locale_at, is_locale}
-use Rattle.line.specs.Name.{byte_at, postfix_at}
+use Rattle.line.specs.Name.{byte_at, postfix_at, name_of}
 use Rattle.line.specs.declared.Parts.{Parts}
-use Rattle.line.specs.declared.Locale.{Locale}
-use Rattle.line.specs.declared.Locale.TheVariants as locale
-use Rattle.line.specs.declared.Named.{Named}
-use Rattle.line.specs.declared.Named.TheVariants.{Name, NoName}
+use Rattle.line.specs.declared.Name.{Name}
 
 -- ---- bounds
 
@@ -64,16 +61,16 @@ empty-within p = go (eqb p.lang 0) (eqb p.country 1) (eqb p.encoding 1) (eqb p.m
     go false false false false i j k = tt
 
 -- a reading of a locale ends inside
-abbrev pub LocaleWithin : ℕ → Locale → Type 0
-LocaleWithin n (locale.End m) = m ≤ n
-LocaleWithin n (locale.Unfinished m) = m ≤ n
+abbrev pub LocaleWithin : ℕ → Result ℕ ℕ → Type 0
+LocaleWithin n (Ok m) = m ≤ n
+LocaleWithin n (Err m) = m ≤ n
 
 pub locale-within : (s : List ℕ) → LocaleWithin (length s) (locale_at s)
 unfolding locale_at
 locale-within s = go (empty_part (parts s)) (parts_within s) (empty-within (parts s))
   where
     go : (o : Option ℕ) → locale_end (parts s) ≤ length s → PartWithin (locale_end (parts s)) o
-        → LocaleWithin (length s) (maybe o (locale.End (locale_end (parts s))) locale.Unfinished)
+        → LocaleWithin (length s) (maybe o (Ok (locale_end (parts s))) Err)
     go None h k = h
     go (Some n) h k = omega arith
 
@@ -91,7 +88,7 @@ marked_other mark [] (suc n) h = refl
 marked_other mark (b ∷ s) zero h = rw (ne_eqb b mark h)
 marked_other mark (b ∷ s) (suc n) h = marked_other mark s n h
 
-locale-short : (s : List ℕ) (l : ℕ) → l ≡ span key_byte s → 0 < l → byte_at s l ≡ 93 → locale_at s ≡ locale.End l
+locale-short : (s : List ℕ) (l : ℕ) → l ≡ span key_byte s → 0 < l → byte_at s l ≡ 93 → locale_at s ≡ Ok l
 unfolding locale_at empty_part parts
 locale-short s l e h b =
     let z : l + 0 ≡ l = omega arith in
@@ -103,9 +100,9 @@ locale-short s l e h b =
 -- ---- what asks for a locale
 
 -- a postfix from the reading of its locale
-abbrev pub postfix_of : List ℕ → ℕ → Locale → Named
-postfix_of s key (locale.End n) = pick (eqb (byte_at s (key + 1 + n)) 93) (Name key (key + 1 + n + 1)) (NoName (key + 1 + n))
-postfix_of s key (locale.Unfinished n) = NoName (key + 1 + n)
+abbrev pub postfix_of : List ℕ → ℕ → Result ℕ ℕ → Result Name ℕ
+postfix_of s key (Ok n) = pick (eqb (byte_at s (key + 1 + n)) 93) (Ok (name_of key (key + 1 + n + 1))) (Err (key + 1 + n))
+postfix_of s key (Err n) = Err (key + 1 + n)
 
 pub postfix-by : (s : List ℕ) (key : ℕ) → postfix_at s key ≡ postfix_of s key (locale_at (drop (key + 1) s))
 unfolding postfix_at locale_at
@@ -118,32 +115,32 @@ postfix-by s key = go (empty_part p)
     e = key + 1 + locale_end p
 
     go : (o : Option ℕ)
-        → maybe o (pick (eqb (byte_at s e) 93) (Name key (e + 1)) (NoName e)) (λ n. NoName (key + 1 + n)) ≡ postfix_of s key (maybe o (locale.End (locale_end p)) locale.Unfinished)
+        → maybe o (pick (eqb (byte_at s e) 93) (Ok (name_of key (e + 1))) (Err e)) (λ n. Err (key + 1 + n)) ≡ postfix_of s key (maybe o (Ok (locale_end p)) Err)
     go None = refl
     go (Some n) = refl
 
 -- the same of a tail that was lent
-pub postfix-lent : (s : List ℕ) (key : ℕ) {l : Locale} → l ≡ locale_at (take (length s - (key + 1)) (drop (key + 1) s)) → postfix_at s key ≡ postfix_of s key l
+pub postfix-lent : (s : List ℕ) (key : ℕ) {l : Result ℕ ℕ} → l ≡ locale_at (take (length s - (key + 1)) (drop (key + 1) s)) → postfix_at s key ≡ postfix_of s key l
 postfix-lent s key e = postfix-by s key ∙ rw (e, tail-lent (key + 1) s)
 
 -- a locale that is all of so many bytes
-abbrev pub ends_at : ℕ → Locale → Bool
-ends_at m (locale.End n) = eqb n m
-ends_at m (locale.Unfinished n) = false
+abbrev pub ends_at : ℕ → Result ℕ ℕ → Bool
+ends_at m (Ok n) = eqb n m
+ends_at m (Err n) = false
 
 pub locale-by : (s : List ℕ) → is_locale s ≡ ends_at (length s) (locale_at s)
 unfolding is_locale locale_at
 locale-by s = go (empty_part (parts s))
   where
     go : (o : Option ℕ)
-        → maybe o (eqb (locale_end (parts s)) (length s)) (λ n. false) ≡ ends_at (length s) (maybe o (locale.End (locale_end (parts s))) locale.Unfinished)
+        → maybe o (eqb (locale_end (parts s)) (length s)) (λ n. false) ≡ ends_at (length s) (maybe o (Ok (locale_end (parts s))) Err)
     go None = refl
     go (Some n) = refl
 
 -- a postfix that is a language alone
-pub postfix-short : (s : List ℕ) (key n : ℕ) → n ≡ key + 1 + span key_byte (drop (key + 1) s) → key + 1 < n → byte_at s n ≡ 93 → Name key (n + 1) ≡ postfix_at s key
+pub postfix-short : (s : List ℕ) (key n : ℕ) → n ≡ key + 1 + span key_byte (drop (key + 1) s) → key + 1 < n → byte_at s n ≡ 93 → Ok (name_of key (n + 1)) ≡ postfix_at s key
 postfix-short s key n e h b =
     let l : ℕ = span key_byte (drop (key + 1) s) in
     let f : byte_at (drop (key + 1) s) l ≡ 93 = get_or-drop (key + 1) s l 0 ∙ sym (ap (byte_at s) e) ∙ b in
-    let q : locale_at (drop (key + 1) s) ≡ locale.End l = locale-short (drop (key + 1) s) l refl (omega arith) f in
+    let q : locale_at (drop (key + 1) s) ≡ Ok l = locale-short (drop (key + 1) s) l refl (omega arith) f in
     rw (postfix-by s key, q, ← e, b)

@@ -1,5 +1,5 @@
 -- The place of a bad line's byte is right: after it no ending makes a good line, and before it some ending does. Assumes nothing.
-use Rattle.std.specs.Prelude.{Option, Some, None}
+use Rattle.std.specs.Prelude.{Option, Some, None, Result, Ok, Err}
 use mathlib.Core.Path.{◌≡◌, refl, sym, ap, ◌∙◌}
 use Prim.Native.Nat.{ℕ, suc, ◌+◌, ◌≤◌, ◌<◌}
 use native.Mathlib.Omega.{arith}
@@ -19,8 +19,7 @@ use Rattle.characters.proofs.Endings.{fault-inside}
 use Rattle.line.specs.Name.{byte_at, read_name}
 use Rattle.line.specs.Line.{entry_after, entry_of, read_entry, read_header, read_line, is_bad}
 use Rattle.line.specs.Place.{BadWithin, BadByte, Mended, GoodBefore}
-use Rattle.line.specs.declared.Named.{Named}
-use Rattle.line.specs.declared.Named.TheVariants.{Name, NoName}
+use Rattle.line.specs.declared.Name.{Name}
 use Rattle.line.specs.declared.Line.TheVariants.{Header, Bad}
 use Rattle.line.proofs.Fronts.{byte-same, name-same, after_same}
 use Rattle.line.proofs.Cases.{sign_at, value_at, after_by, header_by, blank_by, first_by, line_first}
@@ -63,9 +62,9 @@ module _ (w p v : List ℕ) where
   unfolding read_entry
   entry-bad n e h = go (read_name (p ++ v)) refl e
     where
-      go : (m : Named) → read_name (p ++ v) ≡ m → entry_of (p ++ v) m ≡ Bad n → entry_of (p ++ w) (read_name (p ++ w)) ≡ Bad n
-      go (Name key name) i e = let r = after-bad key name n e h in rw (name-same w p v (rw i (cut_inside _ p name r.0)) ∙ i) r.1
-      go (NoName k) i e = let j : k ≡ n = cc in rw (name-same w p v (rw i (omega arith)) ∙ i) e
+      go : (m : Result Name ℕ) → read_name (p ++ v) ≡ m → entry_of (p ++ v) m ≡ Bad n → entry_of (p ++ w) (read_name (p ++ w)) ≡ Bad n
+      go (Ok m) i e = let r = after-bad m.key m.name n e h in rw (name-same w p v (rw i (cut_inside _ p m.name r.0)) ∙ i) r.1
+      go (Err k) i e = let j : k ≡ n = cc in rw (name-same w p v (rw i (omega arith)) ∙ i) e
 
   header-bad : (n : ℕ) → read_header (p ++ v) ≡ Bad n → n < length p → read_header (p ++ w) ≡ Bad n
   unfolding read_header
@@ -118,11 +117,11 @@ entry-mended : (p v : List ℕ) → 0 < length p → ((t : List ℕ) → read_li
 unfolding read_entry
 entry-mended p v h f e = go (read_name (p ++ v)) refl e
   where
-    go : (m : Named) → read_name (p ++ v) ≡ m → entry_of (p ++ v) m ≡ Bad (length p) → Mended p
-    go (Name key name) i e = after-mended p v key name i (λ t a. ap is_bad (f t) ∙ rw a) e
-    go (NoName n) i e =
+    go : (m : Result Name ℕ) → read_name (p ++ v) ≡ m → entry_of (p ++ v) m ≡ Bad (length p) → Mended p
+    go (Ok n) i e = after-mended p v n.key n.name i (λ t a. ap is_bad (f t) ∙ rw a) e
+    go (Err n) i e =
         let k : n ≡ length p = cc in
-        let c = name-closed p v h (i ∙ ap NoName k) in
+        let c = name-closed p v h (i ∙ ap Err k) in
         let q : List ℕ = p ++ c.close in
         record {
           ending = c.close ++ (61 ∷ []);

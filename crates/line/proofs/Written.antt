@@ -1,5 +1,5 @@
 -- Entries that are written read as entries: another value after the same name, and a new name with its value. Assumes nothing.
-use Rattle.std.specs.Prelude.{None}
+use Rattle.std.specs.Prelude.{None, Result, Ok, Err}
 use mathlib.Core.Path.{◌≡◌, refl, ap, ◌∙◌}
 use Prim.Native.Nat.{ℕ, suc, ◌+◌, ◌<◌}
 use native.Mathlib.Omega.{arith}
@@ -19,11 +19,10 @@ use Rattle.characters.specs.Utf8.{text_fault}
 use Rattle.characters.specs.declared.Due.TheVariants.{Start}
 use Rattle.characters.proofs.Steps.{value-clean}
 use Rattle.line.specs.Locale.{part_length, parts, locale_end}
-use Rattle.line.specs.Name.{read_name}
+use Rattle.line.specs.Name.{read_name, name_of}
 use Rattle.line.specs.Line.{entry_after, read_entry, read_line}
 use Rattle.line.specs.Form.{key_form, names_all}
-use Rattle.line.specs.declared.Named.{Named}
-use Rattle.line.specs.declared.Named.TheVariants.{Name, NoName}
+use Rattle.line.specs.declared.Name.{Name}
 use Rattle.line.specs.declared.Line.TheVariants.{Entry}
 use Rattle.line.proofs.Bounds.{line-within}
 use Rattle.line.proofs.Cases.{sign_at, line_first}
@@ -38,18 +37,18 @@ pub record Value (v : List ℕ) : Type 0 where
 
 -- ---- a line that begins with a name is an entry or bad
 
-key-first : (b : ℕ) (s : List ℕ) (key name : ℕ) → read_name (b ∷ s) ≡ Name key name → key_byte b ≡ true
+key-first : (b : ℕ) (s : List ℕ) (key name : ℕ) → read_name (b ∷ s) ≡ Ok (name_of key name) → key_byte b ≡ true
 key-first b s key name e = by-test (key_byte b) (λ t. t) (λ n. no (cc (no_name b s n)))
 
 no-blank : (b : ℕ) → key_byte b ≡ true → blank_byte b ≡ false
 unfolding blank_byte
 no-blank b k = rw (class-other key_byte b 32 (unfold key_byte in refl) k, class-other key_byte b 9 (unfold key_byte in refl) k)
 
-no-name-none : read_name [] ≡ NoName 0
+no-name-none : read_name [] ≡ Err 0
 unfolding read_name span
 no-name-none = refl
 
-named-line : (s : List ℕ) (key name : ℕ) → read_name s ≡ Name key name → read_line s ≡ entry_after s key name
+named-line : (s : List ℕ) (key name : ℕ) → read_name s ≡ Ok (name_of key name) → read_line s ≡ entry_after s key name
 unfolding read_entry
 named-line [] key name e = no (cc no-name-none)
 named-line (b ∷ s) key name e =
@@ -70,19 +69,19 @@ other-value p v w key name e k =
 -- ---- a new entry: 61 is `=`
 
 -- a key argument is a whole name
-pub key-form : (k : List ℕ) → key_form k ≡ true → (key : ℕ) × (read_name k ≡ Name key (length k))
+pub key-form : (k : List ℕ) → key_form k ≡ true → (key : ℕ) × (read_name k ≡ Ok (name_of key (length k)))
 unfolding key_form
 key-form k e = by (read_name k) refl e
   where
-    by : (m : Named) → read_name k ≡ m → names_all k m ≡ true → (key : ℕ) × (read_name k ≡ Name key (length k))
-    by (Name key name) i e = (key, i ∙ ap (Name key) (eqb-true name (length k) e))
-    by (NoName n) i e = absurd (false≢true e)
+    by : (m : Result Name ℕ) → read_name k ≡ m → names_all k m ≡ true → (key : ℕ) × (read_name k ≡ Ok (name_of key (length k)))
+    by (Ok m) i e = (m.key, i ∙ ap (λ (n : ℕ). Ok (name_of m.key n)) (eqb-true m.name (length k) e))
+    by (Err n) i e = absurd (false≢true e)
 
-module _ (k v : List ℕ) (key : ℕ) (h : read_name k ≡ Name key (length k)) (l : Value v) where
-  name-before : read_name (k ++ (61 ∷ v)) ≡ Name key (length k)
+module _ (k v : List ℕ) (key : ℕ) (h : read_name k ≡ Ok (name_of key (length k))) (l : Value v) where
+  name-before : read_name (k ++ (61 ∷ v)) ≡ Ok (name_of key (length k))
   unfolding span key_byte
   name-before =
-      let e : read_name (k ++ []) ≡ Name key (length k) = rw (append-nil k) h in
+      let e : read_name (k ++ []) ≡ Ok (name_of key (length k)) = rw (append-nil k) h in
       name-same (61 ∷ v) k [] (rw e (omega arith, λ z. record { key = refl; postfix = refl })) ∙ e
 
   pub new-entry : read_line (k ++ (61 ∷ v)) ≡ Entry key (length k) (length k + 1)
@@ -124,6 +123,6 @@ clean-name s key name (postfixed i t₁ t₂ t₃ t₄ j) =
     (clean-add (key + 1) _ s (clean-add key 1 s c (clean-byte 91 key s refl t₂)) (clean-parts (drop (key + 1) s)))
     (clean-byte 93 (bracket s key) s refl t₄))
 
-pub new-clean : (k v : List ℕ) (key : ℕ) → read_name k ≡ Name key (length k) → Value v → Clean (k ++ (61 ∷ v))
+pub new-clean : (k v : List ℕ) (key : ℕ) → read_name k ≡ Ok (name_of key (length k)) → Value v → Clean (k ++ (61 ∷ v))
 new-clean k v key h l =
     clean-append k (61 ∷ v) (rw (take-length k) at (clean-name k key (length k) (is_name_lem k key (length k) h))) (refl, value-clean v l.text)

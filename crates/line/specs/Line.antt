@@ -1,5 +1,5 @@
 -- What a line is: blank, comment, header, entry or bad (01, "Lines of a file"). Assumes nothing.
-use Rattle.std.specs.Prelude.{ℕ, ◌+◌, Bool, true, false, List, length, drop, eqb}
+use Rattle.std.specs.Prelude.{ℕ, ◌+◌, Bool, true, false, List, length, drop, eqb, Result, Ok, Err}
 use Prim.Native.Char.{code}
 use Rattle.base.specs.Choice.{pick, maybe}
 use Rattle.base.specs.Lists.{span}
@@ -7,8 +7,7 @@ use Rattle.characters.specs.Class.{group_byte, space_byte, blank_byte, value_byt
 use Rattle.characters.specs.Utf8.{text_fault}
 use Rattle.characters.specs.declared.Due.TheVariants.{Start}
 use Rattle.line.specs.Name.{byte_at, read_name}
-use Rattle.line.specs.declared.Named.{Named}
-use Rattle.line.specs.declared.Named.TheVariants.{Name, NoName}
+use Rattle.line.specs.declared.Name.{Name}
 use Rattle.line.specs.declared.Line.{Line}
 use Rattle.line.specs.declared.Line.TheVariants.{Blank, Comment, Header, Entry, Bad}
 
@@ -22,9 +21,9 @@ entry_after s key name =
     (Bad sign)
 
 -- the entry after a name, if there is one
-abbrev pub entry_of : List ℕ → Named → Line
-entry_of s (Name key name) = entry_after s key name
-entry_of s (NoName n) = Bad n
+abbrev pub entry_of : List ℕ → Result Name ℕ → Line
+entry_of s (Ok n) = entry_after s n.key n.name
+entry_of s (Err n) = Bad n
 
 -- an entry, or the byte that makes it none
 unfoldable pub read_entry : List ℕ → Line

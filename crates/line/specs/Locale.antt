@@ -1,12 +1,10 @@
 -- A locale: lang, then perhaps _COUNTRY, .ENCODING, @MODIFIER in that order (01, "Lines of a file"). Assumes nothing.
-use Rattle.std.specs.Prelude.{ℕ, suc, ◌+◌, Bool, false, List, [], ◌∷◌, length, drop, eqb, Option, Some, None}
+use Rattle.std.specs.Prelude.{ℕ, suc, ◌+◌, Bool, false, List, [], ◌∷◌, length, drop, eqb, Option, Some, None, Result, Ok, Err}
 use Prim.Native.Char.{code}
 use Rattle.base.specs.Choice.{pick, maybe}
 use Rattle.base.specs.Lists.{span}
 use Rattle.characters.specs.Class.{key_byte}
 use Rattle.line.specs.declared.Parts.{Parts}
-use Rattle.line.specs.declared.Locale.{Locale}
-use Rattle.line.specs.declared.Locale.TheVariants as locale
 
 -- a part's length with its mark, if the mark stands at the front
 unfoldable pub part_length : ℕ → List ℕ → ℕ
@@ -35,8 +33,8 @@ empty_part p =
     (pick (eqb p.modifier 1) (Some (p.lang + p.country + p.encoding + 1)) None)))
 
 -- a locale at the front: where it ends, or the byte that is missing
-unfoldable pub locale_at : List ℕ → Locale
-locale_at s = maybe (empty_part (parts s)) (locale.End (locale_end (parts s))) locale.Unfinished
+unfoldable pub locale_at : List ℕ → Result ℕ ℕ
+locale_at s = maybe (empty_part (parts s)) (Ok (locale_end (parts s))) Err
 
 -- the whole list is a locale
 unfoldable pub is_locale : List ℕ → Bool

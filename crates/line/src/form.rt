@@ -4,7 +4,6 @@ ghost use Rattle.base.specs.Lists.{all};
 ghost use Rattle.characters.specs.Class.{member};
 ghost use Rattle.line.specs.Form as spec;
 
-use crate::{Locale, Named};
 use characters::Class;
 
 // Whether all bytes are of a class.
@@ -18,41 +17,26 @@ fn all_in(s: &[u8], k: Class) -> bool
 pub fn is_group(g: &[u8]) -> bool
     ensures { result ≡ spec.group_form g.now }
 {
-    if g.len() == 0 {
-        return false;
-    }
-    all_in(g, Class::Group)
+    !g.is_empty() && all_in(g, Class::Group)
 }
 
 // A plain key argument.
 pub fn is_plain(k: &[u8]) -> bool
     ensures { result ≡ spec.plain_form k.now }
 {
-    if k.len() == 0 {
-        return false;
-    }
-    all_in(k, Class::Key)
+    !k.is_empty() && all_in(k, Class::Key)
 }
 
 // A key argument, perhaps with a postfix.
 pub fn is_key(k: &[u8]) -> bool
     ensures { result ≡ spec.key_form k.now }
 {
-    match crate::read_name(k) {
-        Named::Name { key: _, name } => name == k.len(),
-        Named::NoName(_) => false,
-    }
+    crate::read_name(k).is_ok_and(|n| n.name == k.len())
 }
 
 // A locale argument: empty, or a locale.
 pub fn is_locale(s: &[u8]) -> bool
     ensures { result ≡ spec.locale_form s.now }
 {
-    if s.len() == 0 {
-        return true;
-    }
-    match crate::locale_at(s) {
-        Locale::End(n) => n == s.len(),
-        Locale::Unfinished(_) => false,
-    }
+    s.is_empty() || crate::locale_at(s).is_ok_and(|n| n == s.len())
 }

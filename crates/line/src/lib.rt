@@ -8,7 +8,7 @@ ghost use Rattle.line.specs.Locale as locale;
 ghost use Rattle.line.specs.Name as name;
 ghost use Rattle.line.specs.Line as spec;
 
-use characters::{Class, Scan};
+use characters::Class;
 
 // What a line is. Bounds count from the line's start.
 #[derive(Clone, Copy)]
@@ -29,11 +29,11 @@ pub enum Line {
     Bad(usize),
 }
 
-// A key with or without a postfix: where each ends, or the byte that is none of it.
+// A key with or without a postfix: where each ends.
 #[derive(Clone, Copy)]
-pub enum Named {
-    Name { key: usize, name: usize },
-    NoName(usize),
+pub struct Name {
+    pub key: usize,
+    pub name: usize,
 }
 
 // The lengths of a locale's parts, each but the first with its mark; 0 for a part that is not there.
@@ -43,13 +43,6 @@ pub struct Parts {
     pub country: usize,
     pub encoding: usize,
     pub modifier: usize,
-}
-
-// A locale at the front of some bytes: where it ends, or the byte that is missing.
-#[derive(Clone, Copy)]
-pub enum Locale {
-    End(usize),
-    Unfinished(usize),
 }
 
 // The byte at a place, 0 past the end.
@@ -91,69 +84,68 @@ pub fn read_parts(s: &[u8]) -> Parts
     }
 }
 
-// The locale at the front.
-fn locale_at(s: &[u8]) -> Locale
+// The locale at the front: where it ends, or else the byte that is missing.
+fn locale_at(s: &[u8]) -> Result<usize, usize>
     ensures { result ≡ locale.locale_at s.now }
 {
-    let p = read_parts(s);
-    let lang = p.lang;
-    let country = p.country;
-    let encoding = p.encoding;
-    let modifier = p.modifier;
+    let Parts {
+        lang,
+        country,
+        encoding,
+        modifier,
+    } = read_parts(s);
     if lang == 0 {
-        return Locale::Unfinished(0);
+        return Err(0);
     }
     if country == 1 {
-        return Locale::Unfinished(lang + 1);
+        return Err(lang + 1);
     }
     if encoding == 1 {
-        return Locale::Unfinished(lang + country + 1);
+        return Err(lang + country + 1);
     }
     if modifier == 1 {
-        return Locale::Unfinished(lang + country + encoding + 1);
+        return Err(lang + country + encoding + 1);
     }
-    Locale::End(lang + country + encoding + modifier)
+    Ok(lang + country + encoding + modifier)
 }
 
-// The postfix whose `[` stands at key. Most are a language alone.
-fn postfix(s: &[u8], key: usize) -> Named
+// The key whose postfix begins with the `[` at this place, or else the byte that is none of it. Most postfixes are a language alone.
+fn postfix(s: &[u8], key: usize) -> Result<Name, usize>
     requires { key < length s.now }
     ensures { result ≡ name.postfix_at s.now key }
 {
     let from = key + 1;
     let lang = characters::classes::span_end(s, from, Class::Key);
-    if byte_at(s, lang) == b']' {
-        if from < lang {
-            return Named::Name {
-                key,
-                name: lang + 1,
-            };
-        }
+    if from < lang && byte_at(s, lang) == b']' {
+        return Ok(Name {
+            key,
+            name: lang + 1,
+        });
     }
     match locale_at(&s[from..]) {
-        Locale::Unfinished(n) => Named::NoName(from + n),
-        Locale::End(n) => {
-            let e = from + n;
-            if byte_at(s, e) == b']' {
-                return Named::Name { key, name: e + 1 };
+        Ok(n) => {
+            let end = from + n;
+            if byte_at(s, end) == b']' {
+                return Ok(Name { key, name: end + 1 });
             }
-            Named::NoName(e)
+            Err(end)
         }
+        Err(n) => Err(from + n),
     }
 }
 
-// The key at the front, perhaps with a postfix.
-pub fn read_name(s: &[u8]) -> Named
+// The key at the front, perhaps with a postfix, or else the byte that is none of it.
+pub fn read_name(s: &[u8]) -> Result<Name, usize>
     ensures { result ≡ name.read_name s.now }
 {
     let key = characters::classes::span_end(s, 0, Class::Key);
     if key == 0 {
-        return Named::NoName(0);
+        return Err(0);
     }
     if byte_at(s, key) == b'[' {
         return postfix(s, key);
     }
-    Named::Name { key, name: key }
+    Ok(Name { key, name: key })
 }
 
 // The entry after a name: spaces, `=`, all spaces that follow, the value.
@@ -166,8 +158,8 @@ fn entry_after(s: &[u8], key: usize, name: usize) -> Line
     }
     let value = characters::classes::span_end(s, sign + 1, Class::Space);
     match characters::utf8::scan_value(s, value) {
-        Scan::Sound => Line::Entry { key, name, value },
-        Scan::Fault(n) => Line::Bad(value + n),
+        None => Line::Entry { key, name, value },
+        Some(n) => Line::Bad(value + n),
     }
 }
 
@@ -175,8 +167,8 @@ fn read_entry(s: &[u8]) -> Line
     ensures { result ≡ spec.read_entry s.now }
 {
     match read_name(s) {
-        Named::Name { key, name } => entry_after(s, key, name),
-        Named::NoName(n) => Line::Bad(n),
+        Ok(Name { key, name }) => entry_after(s, key, name),
+        Err(n) => Line::Bad(n),
     }
 }
 
@@ -201,22 +193,17 @@ fn read_header(s: &[u8]) -> Line
 pub fn read_line(s: &[u8]) -> Line
     ensures { result ≡ spec.read_line s.now }
 {
-    if s.len() == 0 {
-        return Line::Blank;
-    }
-    let first = s[0];
-    if first == b'#' {
-        return Line::Comment;
-    }
-    if first == b'[' {
-        return read_header(s);
-    }
-    if characters::classes::is_in(Class::Blank, first) {
-        let blank = characters::classes::span_end(s, 0, Class::Blank);
-        if blank == s.len() {
-            return Line::Blank;
+    match s {
+        [] => Line::Blank,
+        [b'#', ..] => Line::Comment,
+        [b'[', ..] => read_header(s),
+        [first, ..] if characters::classes::is_in(Class::Blank, *first) => {
+            let blank = characters::classes::span_end(s, 0, Class::Blank);
+            if blank == s.len() {
+                return Line::Blank;
+            }
+            Line::Bad(blank)
         }
-        return Line::Bad(blank);
+        _ => read_entry(s),
     }
-    read_entry(s)
 }

@@ -28,23 +28,23 @@ overflow_add-result c =
     let f = m in
     let v = f in
     let a = v.args in
-    omega (arith, rw (← f.scan_value.ensures, m.in-Fault.is) at (fault-within value_byte Start (drop v.span_end-value.result a.s.now)), length-drop v.span_end-value.result a.s.now)
+    omega (arith, rw (← f.scan_value.ensures, m.in-Some.is) at (fault-within value_byte Start (drop v.span_end-value.result a.s.now)), length-drop v.span_end-value.result a.s.now)
 
-pub returns-in-Sound : goal.returns-in-Sound
+pub returns-in-None : goal.returns-in-None
 unfolding entry_after
-returns-in-Sound c =
+returns-in-None c =
     let f = c in
     let v = f in
     let b = v in
-    rw (← b.span_end-sign.ensures, ← b.byte_at.ensures, eq-eqb _ _ v.if-byte_at-ne61.false, ← v.span_end-value.ensures, ← f.scan_value.ensures, c.in-Sound.is)
+    rw (← b.span_end-sign.ensures, ← b.byte_at.ensures, eq-eqb _ _ v.if-byte_at-ne61.false, ← v.span_end-value.ensures, ← f.scan_value.ensures, c.in-None.is)
 
-pub returns-in-Fault : goal.returns-in-Fault
+pub returns-in-Some : goal.returns-in-Some
 unfolding entry_after
-returns-in-Fault c =
+returns-in-Some c =
     let f = c in
     let v = f in
     let b = v in
-    rw (← b.span_end-sign.ensures, ← b.byte_at.ensures, eq-eqb _ _ v.if-byte_at-ne61.false, ← v.span_end-value.ensures, ← f.scan_value.ensures, c.in-Fault.is)
+    rw (← b.span_end-sign.ensures, ← b.byte_at.ensures, eq-eqb _ _ v.if-byte_at-ne61.false, ← v.span_end-value.ensures, ← f.scan_value.ensures, c.in-Some.is)
 
 pub overflow_add-sign : goal.overflow_add-sign
 overflow_add-sign c = omega (arith, sign-inside (goal.at.overflow_add-sign c).Else-byte_at-ne61)

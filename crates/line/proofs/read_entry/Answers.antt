@@ -2,10 +2,10 @@
 use Rattle.line.specs.Line.{read_entry}
 use Rattle.line.proofs.read_entry.Goals as goal
 
-pub returns-in-Name : goal.returns-in-Name
+pub returns-in-Ok : goal.returns-in-Ok
 unfolding read_entry
-returns-in-Name c = rw (← c.read_name.ensures, c.in-Name.is) c.entry_after.ensures
+returns-in-Ok c = rw (← c.read_name.ensures, c.in-Ok.is) c.entry_after.ensures
 
-pub returns-in-NoName : goal.returns-in-NoName
+pub returns-in-Err : goal.returns-in-Err
 unfolding read_entry
-returns-in-NoName c = rw (← c.read_name.ensures, c.in-NoName.is)
+returns-in-Err c = rw (← c.read_name.ensures, c.in-Err.is)

@@ -1,21 +1,14 @@
 -- `form::is_locale` meets its contract: the locale is what `locale_at` reads. Assumes nothing.
-use borrow.Author.Tests.{eq-eqb, ne_eqb}
 use Rattle.line.specs.Form.{locale_form}
+use mathlib.Core.Path.{sym, ◌∙◌}
+use borrow.Author.Rules.{rules}
 use Rattle.line.proofs.Locales.{locale-by}
 use Rattle.line.proofs.form.is_locale.Goals as goal
 
-pub returns-then-s-eq0 : goal.returns-then-s-eq0
+pub returns-then-is_empty : goal.returns-then-is_empty
 unfolding locale_form
-returns-then-s-eq0 c = rw (eq-eqb _ _ c.if-s-eq0.true)
+returns-then-is_empty c = rw (sym c.is_empty.ensures ∙ c.if-is_empty.true, c.if-is_empty.true)
 
-pub returns-in-End : goal.returns-in-End
+pub returns-else-is_empty : goal.returns-else-is_empty
 unfolding locale_form
-returns-in-End c =
-    let l = c in
-    rw (ne_eqb _ _ l.if-s-eq0.false, locale-by l.args.s.now, ← l.locale_at.ensures, c.in-End.is)
-
-pub returns-in-Unfinished : goal.returns-in-Unfinished
-unfolding locale_form
-returns-in-Unfinished c =
-    let l = c in
-    rw (ne_eqb _ _ l.if-s-eq0.false, locale-by l.args.s.now, ← l.locale_at.ensures, c.in-Unfinished.is)
+returns-else-is_empty c = rw (sym c.is_empty.ensures ∙ c.if-is_empty.false, locale-by c.args.s.now, ← c.locale_at.ensures) (search rules)

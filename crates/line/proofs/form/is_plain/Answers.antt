@@ -1,12 +1,12 @@
 -- `form::is_plain` meets its contract: the tests that led to each return say which case of the definition holds. Assumes nothing.
-use borrow.Author.Tests.{eq-eqb, ne_eqb}
+use mathlib.Core.Path.{sym, ◌∙◌}
 use Rattle.line.specs.Form.{plain_form}
 use Rattle.line.proofs.form.is_plain.Goals as goal
 
-pub returns-then-k-eq0 : goal.returns-then-k-eq0
+pub returns-then-not-is_empty : goal.returns-then-not-is_empty
 unfolding plain_form
-returns-then-k-eq0 c = rw (eq-eqb _ _ c.if-k-eq0.true)
+returns-then-not-is_empty c = rw (sym c.is_empty.ensures ∙ c.if-not-is_empty.true) c.all_in.ensures
 
-pub returns : goal.returns
+pub returns-else-not-is_empty : goal.returns-else-not-is_empty
 unfolding plain_form
-returns c = rw (ne_eqb _ _ c.if-k-eq0.false) c.all_in.ensures
+returns-else-not-is_empty c = rw (sym c.is_empty.ensures ∙ c.if-not-is_empty.false, c.if-not-is_empty.false)
