@@ -1,4 +1,5 @@
 -- One line of a file: its group, its title and its name, from its first byte and its reading. Assumes nothing.
+use Rattle.std.specs.Prelude.{Result, Ok, Err}
 use mathlib.Core.Path.{◌≡◌, refl, sym, ap, ◌∙◌}
 use Prim.Native.Nat.{ℕ, ◌-◌, ◌≤◌, ◌<◌}
 use native.Mathlib.Omega.{arith}
@@ -13,10 +14,10 @@ use Rattle.base.proofs.Tests.{no, by-test, same_true}
 use Rattle.characters.specs.Class.{key_byte}
 use Rattle.line.specs.Name.{byte_at, read_name}
 use Rattle.line.specs.Line.{read_line, is_bad}
+use Rattle.line.specs.Form.{names_all}
 use Rattle.line.specs.declared.Line.{Line}
 use Rattle.line.specs.declared.Line.TheVariants.{Blank, Comment, Header, Entry, Bad}
-use Rattle.line.specs.declared.Named.{Named}
-use Rattle.line.specs.declared.Named.TheVariants.{Name, NoName}
+use Rattle.line.specs.declared.Name.{Name}
 use Rattle.line.proofs.Bounds.{NamedWithin, name-within, LineWithin, line-within}
 use Rattle.line.proofs.FirstByte.{Headed, headed-line, no_name, Unheaded, unheaded-line}
 use Rattle.rows.specs.Rows.{group_after, value_start}
@@ -48,7 +49,7 @@ header-good l e h = go (read_line l) (headed-line l e) (line-within l) h
     go (Bad n) a b h = no (cc)
 
 -- it names no key
-headed-name : (l : List ℕ) → eqb (byte_at l 0) 91 ≡ true → read_name l ≡ NoName 0
+headed-name : (l : List ℕ) → eqb (byte_at l 0) 91 ≡ true → read_name l ≡ Err 0
 unfolding key_byte
 headed-name [] e = absurd (false≢true e)
 headed-name (b ∷ l) e = let z : b ≡ 91 = eqb-true b 91 e in no_name b l (rw z)
@@ -103,9 +104,9 @@ inside-after group g l = go (read_line l)
     go (Bad n) = refl
 
 -- the title of a key, if the line names one
-abbrev pub key_title : List ℕ → List ℕ → Named → Title
-key_title g l (Name key n) = Key g (take n l)
-key_title g l (NoName n) = Nameless
+abbrev pub key_title : List ℕ → List ℕ → Result Name ℕ → Title
+key_title g l (Ok n) = Key g (take n.name l)
+key_title g l (Err n) = Nameless
 
 -- a test of titles that only a key's passes asks for the key that the line names
 pub title-named : (p : Title → Bool) → p Nameless ≡ false → ((g : List ℕ) → p (Group g) ≡ false) → (g l : List ℕ) → is_bad (read_line l) ≡ false
@@ -127,9 +128,9 @@ pub key-title : (g h k l : List ℕ) → is_bad (read_line l) ≡ false → same
 unfolding same_title
 key-title g h k l b = title-named (same_title (Key h k)) refl (λ g. refl) g l b ∙ go (read_name l)
   where
-    go : (m : Named) → same_title (Key h k) (key_title g l m) ≡ (same h g && named_as k l m)
-    go (Name key n) = refl
-    go (NoName n) = sym (and-false (same h g))
+    go : (m : Result Name ℕ) → same_title (Key h k) (key_title g l m) ≡ (same h g && named_as k l m)
+    go (Ok n) = refl
+    go (Err n) = sym (and-false (same h g))
 
 -- ---- a name at the front
 
@@ -141,9 +142,9 @@ same_length k l n h e = ap length (same_true k (take n l) e) ∙ length-take-le 
 pub not-front : (k l : List ℕ) → same k (take (length k) l) ≡ false → named_as k l (read_name l) ≡ false
 not-front k l f = go (read_name l) (name-within l)
   where
-    go : (m : Named) → NamedWithin (length l) m → named_as k l m ≡ false
-    go (Name key n) h = by-test (same k (take n l)) (λ t. absurd (false≢true (sym f ∙ rw (same_length k l n h.2 t) t))) (λ e. e)
-    go (NoName n) h = refl
+    go : (m : Result Name ℕ) → NamedWithin (length l) m → named_as k l m ≡ false
+    go (Ok n) h = by-test (same k (take n.name l)) (λ t. absurd (false≢true (sym f ∙ rw (same_length k l n.name h.2 t) t))) (λ e. e)
+    go (Err n) h = refl
 
 -- a line that is shorter does not begin with the key
 pub too_short : (k l : List ℕ) → length l < length k → same k (take (length k) l) ≡ false
@@ -157,9 +158,17 @@ joined_same [] r s = refl
 joined_same (x ∷ f) r [] = refl
 joined_same (x ∷ f) r (y ∷ s) = rw (joined_same f r s) (sym (and_assoc (eqb x y) (same f (take (length f) s)) (same r (drop (length f) s))))
 
--- one that is at the front is the name if it is as long
-pub front : (k l : List ℕ) (n : ℕ) → same k (take (length k) l) ≡ true → n ≤ length l → same k (take n l) ≡ eqb n (length k)
+-- one that is at the front is the first n bytes if it is as long
+front : (k l : List ℕ) (n : ℕ) → same k (take (length k) l) ≡ true → n ≤ length l → same k (take n l) ≡ eqb n (length k)
 front k l n t h =
     by-test (eqb n (length k))
     (λ e. let z : n ≡ length k = eqb-true n (length k) e in rw (e, z) t)
     (λ f. rw f (by-test (same k (take n l)) (λ e. absurd (eqb-false n (length k) f (sym (same_length k l n h e)))) (λ e. e)))
+
+-- a key that is at the front is the name if it is as long
+pub at-front : (k l : List ℕ) → same k (take (length k) l) ≡ true → named_as k l (read_name l) ≡ names_all k (read_name l)
+at-front k l t = go (read_name l) (name-within l)
+  where
+    go : (m : Result Name ℕ) → NamedWithin (length l) m → named_as k l m ≡ names_all k m
+    go (Ok n) h = front k l n.name t h.2
+    go (Err n) h = refl

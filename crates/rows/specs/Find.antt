@@ -1,10 +1,9 @@
 -- What the functions of this crate answer, by the definitions of rows. Assumes nothing.
-use Rattle.std.specs.Prelude.{ℕ, suc, ◌+◌, Bool, false, not, List, [], ◌∷◌, length, take, eqb, Option}
+use Rattle.std.specs.Prelude.{ℕ, suc, ◌+◌, Bool, false, not, List, [], ◌∷◌, length, take, eqb, Option, Result, Ok, Err}
 use Prim.Native.Char.{code}
 use Rattle.base.specs.Choice.{pick, maybe}
 use Rattle.base.specs.Lists.{same, part, any}
-use Rattle.line.specs.declared.Named.{Named}
-use Rattle.line.specs.declared.Named.TheVariants.{Name, NoName}
+use Rattle.line.specs.declared.Name.{Name}
 use Rattle.line.specs.declared.Line.{Line}
 use Rattle.line.specs.declared.Line.TheVariants.{Blank, Comment, Header, Entry, Bad}
 use Rattle.line.specs.Line.{is_bad}
@@ -30,9 +29,9 @@ abbrev pub found_of : Option Row → Found
 found_of o = maybe o found.Nothing (λ r. found.Row r.line r.start (r.start + length (line_of r.bytes)) (r.start + value_start r.reading))
 
 -- the line's key with its postfix is this one
-abbrev pub named_as : List ℕ → List ℕ → Named → Bool
-named_as key line (Name k n) = same key (take n line)
-named_as key line (NoName n) = false
+abbrev pub named_as : List ℕ → List ℕ → Result Name ℕ → Bool
+named_as key line (Ok n) = same key (take n.name line)
+named_as key line (Err n) = false
 
 -- whether a line and what follows stand in a group, if what stood before it did
 abbrev pub inside_after : List ℕ → List ℕ → Bool → Line → Bool

@@ -9,7 +9,7 @@ ghost use Rattle.rows.specs.Rows.{read_rows, value_start};
 ghost use Rattle.rows.specs.Title as title;
 ghost use Rattle.rows.specs.Find.{no_lf, line_length, none_bad, found_of, named_as, inside_after};
 
-use line::{Line, Named};
+use line::Line;
 
 // A row of a file: its number, where it starts, where its line ends, where its value starts (an entry's; else the row's start).
 #[derive(Clone, Copy)]
@@ -117,13 +117,7 @@ pub fn begins(l: &[u8], key: &[u8]) -> bool
 fn is_named(l: &[u8], key: &[u8]) -> bool
     ensures { result ≡ named_as key.now l.now (read_name l.now) }
 {
-    if begins(l, key) {
-        return match line::read_name(l) {
-            Named::Name { key: _, name } => name == key.len(),
-            Named::NoName(_) => false,
-        };
-    }
-    false
+    begins(l, key) && line::read_name(l).is_ok_and(|n| n.name == key.len())
 }
 
 // Where an entry's value starts in its line; 0 for another line.
@@ -131,15 +125,8 @@ pub fn value_start(l: &[u8]) -> usize
     ensures { result ≡ value_start (read_line l.now) }
 {
     match line::read_line(l) {
-        Line::Entry {
-            key: _,
-            name: _,
-            value,
-        } => value,
-        Line::Blank => 0,
-        Line::Comment => 0,
-        Line::Header { end: _ } => 0,
-        Line::Bad(_) => 0,
+        Line::Entry { value, .. } => value,
+        Line::Blank | Line::Comment | Line::Header { .. } | Line::Bad(_) => 0,
     }
 }
 
