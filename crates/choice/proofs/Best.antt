@@ -1,5 +1,5 @@
 -- The walk through the rows that keeps the best row so far. Assumes nothing.
-use Rattle.std.specs.Prelude.{Option, Some, None}
+use Rattle.std.specs.Prelude.{Option, Some, None, Result, Ok, Err}
 use mathlib.Core.Path.{◌≡◌, refl, sym, ◌∙◌}
 use Prim.Native.Nat.{ℕ, suc, ◌+◌, ◌≤◌, ◌<◌}
 use native.Mathlib.Omega.{arith}
@@ -11,8 +11,7 @@ use Rattle.base.specs.Choice.{pick, maybe}
 use Rattle.base.specs.Lists.{same, part}
 use Rattle.line.specs.Name.{read_name}
 use Rattle.line.specs.Line.{read_line}
-use Rattle.line.specs.declared.Named.{Named}
-use Rattle.line.specs.declared.Named.TheVariants.{Name, NoName}
+use Rattle.line.specs.declared.Name.{Name}
 use Rattle.rows.specs.Rows.{Row, read_rows, value_start}
 use Rattle.rows.specs.Title.{Key, title, same_title}
 use Rattle.rows.specs.Find.{line_length, none_bad, found_of, inside_after}
@@ -28,24 +27,24 @@ use Rattle.choice.proofs.Choices.{first-nowhere, place_of, better, no-better}
 -- ---- the rank of a row
 
 -- the title's key has its rank, if the title is of the group
-place-title : (group h : List ℕ) (r : Row) (line : List ℕ) (m : Named) (ks : List (List ℕ))
+place-title : (group h : List ℕ) (r : Row) (line : List ℕ) (m : Result Name ℕ) (ks : List (List ℕ))
     → ((k : List ℕ) → same_title (Key group k) (stripped_title (title r)) ≡ same_title (Key group k) (stripped_title (key_title h line m)))
     → place_of group r ks ≡ pick (same group h) (rank_of ks line m) (length ks)
 unfolding place_of rank_in same_title
-place-title group h r line (Name key n) [] i = by (same group h)
+place-title group h r line (Ok n) [] i = by (same group h)
   where
     by : (t : Bool) → ◌≡◌ {A = ℕ} 0 (pick t 0 0)
     by true = refl
     by false = refl
-place-title group h r line (Name key n) (k ∷ ks) i = rw (i k, place-title group h r line (Name key n) ks i) (by (same group h))
+place-title group h r line (Ok n) (k ∷ ks) i = rw (i k, place-title group h r line (Ok n) ks i) (by (same group h))
   where
     x : List ℕ
-    x = stripped_key (take n line)
+    x = stripped_key (take n.name line)
 
     by : (t : Bool) → pick (t && same k x) 0 (suc (pick t (rank_in ks x) (length ks))) ≡ pick t (pick (same k x) 0 (suc (rank_in ks x))) (suc (length ks))
     by true = refl
     by false = refl
-place-title group h r line (NoName n) ks i = None ks ∙ by (same group h)
+place-title group h r line (Err n) ks i = None ks ∙ by (same group h)
   where
     None : (ks : List (List ℕ)) → place_of group r ks ≡ length ks
     None [] = refl

@@ -1,4 +1,5 @@
 -- The rank of a line's key among those that a locale asks for. Assumes nothing.
+use Rattle.std.specs.Prelude.{Result, Ok, Err}
 use mathlib.Core.Path.{◌≡◌, refl, sym, ap, ◌∙◌}
 use Prim.Native.Nat.{ℕ, zero, suc, ◌+◌, ◌-◌, ◌≤◌, ◌<◌}
 use native.Mathlib.Omega.{arith}
@@ -16,9 +17,8 @@ use Rattle.base.proofs.Span.{span-take}
 use Rattle.base.proofs.Tests.{by-test, same_true}
 use Rattle.characters.specs.Class.{key_byte}
 use Rattle.line.specs.Locale.{part_length, parts, locale_end}
-use Rattle.line.specs.Name.{byte_at, read_name}
-use Rattle.line.specs.declared.Named.{Named}
-use Rattle.line.specs.declared.Named.TheVariants.{Name, NoName}
+use Rattle.line.specs.Name.{byte_at, read_name, name_of}
+use Rattle.line.specs.declared.Name.{Name}
 use Rattle.line.proofs.Bounds.{NamedWithin, name-within}
 use Rattle.line.proofs.Entries.{IsName, plain-name, postfixed, is_name_lem, name-key}
 use Rattle.choice.specs.Locale.{stripped, stripped_key}
@@ -66,13 +66,13 @@ pub record Opened (line : List ℕ) (k n : ℕ) : Type 0 where
   pub opens : part k n line ≡ 91 ∷ part (k + 1) n line
   pub closes : Closed (part (k + 1) n line)
 
-pub name-opened : (line : List ℕ) (k n : ℕ) → read_name line ≡ Name k n → (n ≡ k → ⊥) → Opened line k n
+pub name-opened : (line : List ℕ) (k n : ℕ) → read_name line ≡ Ok (name_of k n) → (n ≡ k → ⊥) → Opened line k n
 name-opened line k n e i = go (is_name_lem line k n e) (rw e at (name-within line))
   where
     y : List ℕ
     y = drop (k + 1) line
 
-    go : IsName line k n → NamedWithin (length line) (Name k n) → Opened line k n
+    go : IsName line k n → NamedWithin (length line) (Ok (name_of k n)) → Opened line k n
     go (plain-name a b c d) w = absurd (i d)
     go (postfixed a b c d f g) w =
         let s : ℕ = locale_end (parts y) in
@@ -120,7 +120,7 @@ module _ (key locale : List ℕ) (plain : all key_byte key ≡ true) where
   keys-stop [] = (tt, tt)
   keys-stop (c ∷ cs) = (refl, keys-stop cs)
 
-  module _ (line : List ℕ) (k n : ℕ) (e : read_name line ≡ Name k n) where
+  module _ (line : List ℕ) (k n : ℕ) (e : read_name line ≡ Ok (name_of k n)) where
     within : (k ≤ n) × (n ≤ length line)
     within = let w = rw e at (name-within line) in (w.1, w.2)
 
@@ -165,6 +165,6 @@ module _ (key locale : List ℕ) (plain : all key_byte key ≡ true) where
   pub line_other : (line : List ℕ) → same key (take (length key) line) ≡ false → 5 ≡ rank_of (all_keys key locale) line (read_name line)
   line_other line f = go (read_name line) refl
     where
-      go : (r : Named) → read_name line ≡ r → 5 ≡ rank_of (all_keys key locale) line r
-      go (Name k n) e = rank-other line k n e (rw (f, and-false (eqb k (length key))))
-      go (NoName n) e = refl
+      go : (r : Result Name ℕ) → read_name line ≡ r → 5 ≡ rank_of (all_keys key locale) line r
+      go (Ok n) e = rank-other line n.key n.name e (rw (f, and-false (eqb n.key (length key))))
+      go (Err n) e = refl

@@ -1,12 +1,11 @@
 -- What the inner functions of this crate answer, by the definitions of a locale's choice. Assumes nothing.
-use Rattle.std.specs.Prelude.{ℕ, suc, ◌+◌, ◌≡◌, List, [], ◌∷◌, ◌++◌, map, length, take, eqb}
+use Rattle.std.specs.Prelude.{ℕ, suc, ◌+◌, ◌≡◌, List, [], ◌∷◌, ◌++◌, map, length, take, eqb, Result, Ok, Err}
 use Prim.Native.Char.{code}
 use Rattle.base.specs.Choice.{pick}
 use Rattle.base.specs.Lists.{same}
 use Rattle.line.specs.Locale.{parts, locale_end}
 use Rattle.line.specs.Name.{byte_at}
-use Rattle.line.specs.declared.Named.{Named}
-use Rattle.line.specs.declared.Named.TheVariants.{Name, NoName}
+use Rattle.line.specs.declared.Name.{Name}
 use Rattle.choice.specs.Locale.{lang_of, country_of, modifier_of, postfixed, stripped_key}
 
 -- the candidates of a locale that is not plain, the best first; where the locale lacks a part, some stand twice
@@ -27,9 +26,9 @@ rank_in [] x = 0
 rank_in (k ∷ ks) x = let more : ℕ = suc (rank_in ks x) in pick (same k x) 0 more
 
 -- that of the key that a line names, encodings apart
-abbrev pub rank_of : List (List ℕ) → List ℕ → Named → ℕ
-rank_of ks line (Name key n) = rank_in ks (stripped_key (take n line))
-rank_of ks line (NoName n) = length ks
+abbrev pub rank_of : List (List ℕ) → List ℕ → Result Name ℕ → ℕ
+rank_of ks line (Ok n) = rank_in ks (stripped_key (take n.name line))
+rank_of ks line (Err n) = length ks
 
 -- how a part serves where one is asked for: 0 it is the same, 1 there is none, 4 it is another
 unfoldable pub rank_part : List ℕ → List ℕ → ℕ

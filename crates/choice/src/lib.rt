@@ -13,7 +13,7 @@ ghost use Rattle.rows.specs.Find.{none_bad, found_of};
 ghost use Rattle.choice.specs.Locale as spec;
 ghost use Rattle.choice.specs.Step as step;
 
-use line::{Named, Parts};
+use line::Parts;
 use rows::Found;
 
 // Whether a locale without country, encoding and modifier means the plain key.
@@ -87,18 +87,16 @@ fn rank(l: &[u8], key: &[u8], locale: &[u8], p: Parts) -> usize
         × (lists.same key.now (take (length key.now) l.now) ≡ true) }
     ensures { result ≡ step.rank_of (step.all_keys key.now locale.now) l.now (read_name l.now) }
 {
-    match line::read_name(l) {
-        Named::Name { key: k, name } => {
-            if k == key.len() {
-                if name == k {
-                    return 4;
-                }
-                return rank_postfix(&l[k + 1..name], locale, p);
-            }
-            5
-        }
-        Named::NoName(_) => 5,
+    let Ok(n) = line::read_name(l) else {
+        return 5;
+    };
+    if n.key != key.len() {
+        return 5;
     }
+    if n.name == n.key {
+        return 4;
+    }
+    rank_postfix(&l[n.key + 1..n.name], locale, p)
 }
 
 // The first row of the best rank, in a file without bad lines. A row behind it counts only where it is better.

@@ -10,7 +10,7 @@ ghost use Rattle.text.specs.Element.{read_elements};
 ghost use Rattle.text.specs.Output.{answered, written_length, held};
 ghost use Rattle.text.specs.Step as step;
 
-use characters::{Content, Scan, utf8};
+use characters::{Content, utf8};
 use fault::Fault;
 
 // Which escapes are known: those of text, or those of a list's element.
@@ -92,8 +92,8 @@ pub fn write_text(text: &[u8], out: &mut [u8]) -> Written
     ensures output { out.new ≡ held (write_text text.now) out.old }
 {
     match utf8::scan(text, Content::Text) {
-        Scan::Fault(_) => Written::Refused(Fault::UnfitText),
-        Scan::Sound => {
+        Some(_) => Written::Refused(Fault::UnfitText),
+        None => {
             let size = escape::raw_length(text);
             if out.len() < size {
                 return Written::Refused(Fault::NoRoom);

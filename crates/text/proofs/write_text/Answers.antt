@@ -2,7 +2,6 @@
 use native.Mathlib.Omega.{arith}
 use mathlib.Core.Path.{sym, ap, ◌∙◌}
 use Rattle.text.specs.Escape.{write_text}
-use Rattle.characters.specs.Step.{fault_of}
 use Rattle.fault.specs.declared.Fault.TheVariants.{UnfitText}
 use Rattle.text.proofs.OutputLaws.{leaves-refused, leaves-full, leaves-written}
 use Rattle.text.proofs.Writing.{fit_written, unfit-written}
@@ -13,19 +12,19 @@ pub returns-then-out-size : goal.returns-then-out-size
 returns-then-out-size c =
     let m = c in
     let a = m.args in
-    let e = fit_written a.text.now (sym (ap fault_of c.in-Sound.is) ∙ m.scan.ensures) in
+    let e = fit_written a.text.now (sym c.in-None.is ∙ m.scan.ensures) in
     leaves-full (write_text a.text.now) a.out.now (ap accepted e) (rw e (omega (arith, c.raw_length-size.ensures)))
 
-pub returns-in-Fault : goal.returns-in-Fault
-returns-in-Fault c =
+pub returns-in-Some : goal.returns-in-Some
+returns-in-Some c =
     let m = c in
     let a = m.args in
-    leaves-refused (write_text a.text.now) UnfitText a.out.now (unfit-written a.text.now (sym (ap fault_of c.in-Fault.is) ∙ m.scan.ensures))
+    leaves-refused (write_text a.text.now) UnfitText a.out.now (unfit-written a.text.now (sym c.in-Some.is ∙ m.scan.ensures))
 
 pub returns-else-out-size : goal.returns-else-out-size
 returns-else-out-size c =
     let u = c in
     let m = u in
     let a = m.args in
-    let e = fit_written a.text.now (sym (ap fault_of u.in-Sound.is) ∙ m.scan.ensures) in
+    let e = fit_written a.text.now (sym u.in-None.is ∙ m.scan.ensures) in
     leaves-written (write_text a.text.now) a.out.now (ap accepted e) (rw e (omega (arith, u.raw_length-size.ensures))) (rw e u.write_raw.ensures)
