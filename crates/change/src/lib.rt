@@ -17,7 +17,7 @@ ghost use Rattle.change.specs.Change as spec;
 ghost use Rattle.change.specs.Target as target;
 ghost use Rattle.change.specs.declared.Slot.TheVariants as slot;
 
-use characters::{Class, Content, Scan};
+use characters::{Class, Content};
 use fault::Fault;
 use line::Line;
 use rows::Found;
@@ -57,14 +57,7 @@ fn in_group(l: &[u8], group: &[u8], inside: bool) -> bool
     }
     match line::read_line(l) {
         Line::Header { end } => rows::same(group, &l[1..end]),
-        Line::Blank => inside,
-        Line::Comment => inside,
-        Line::Entry {
-            key: _,
-            name: _,
-            value: _,
-        } => inside,
-        Line::Bad(_) => inside,
+        Line::Blank | Line::Comment | Line::Entry { .. } | Line::Bad(_) => inside,
     }
 }
 
@@ -72,20 +65,7 @@ fn in_group(l: &[u8], group: &[u8], inside: bool) -> bool
 fn is_of_group(l: &[u8], inside: bool) -> bool
     ensures { result ≡ (inside && target.named (read_line l.now)) }
 {
-    if inside {
-        return match line::read_line(l) {
-            Line::Blank => false,
-            Line::Comment => false,
-            Line::Header { end: _ } => true,
-            Line::Entry {
-                key: _,
-                name: _,
-                value: _,
-            } => true,
-            Line::Bad(_) => false,
-        };
-    }
-    false
+    inside && matches!(line::read_line(l), Line::Header { .. } | Line::Entry { .. })
 }
 
 // The place behind a row, by the end of its line.
@@ -132,15 +112,8 @@ fn is_postfixed(l: &[u8], key: &[u8], inside: bool) -> bool
 {
     if inside {
         return match line::read_line(l) {
-            Line::Entry {
-                key: k,
-                name,
-                value: _,
-            } => rows::same(key, &l[..k]) & (k != name),
-            Line::Blank => false,
-            Line::Comment => false,
-            Line::Header { end: _ } => false,
-            Line::Bad(_) => false,
+            Line::Entry { key: k, name, .. } => rows::same(key, &l[..k]) & (k != name),
+            Line::Blank | Line::Comment | Line::Header { .. } | Line::Bad(_) => false,
         };
     }
     false
@@ -265,8 +238,8 @@ pub fn find_target(file: &[u8], op: Operation, group: &[u8], key: &[u8], text: &
     match op {
         Operation::Remove => find_remove(file, group, key),
         Operation::Set => match characters::utf8::scan(text, Content::Text) {
-            Scan::Fault(_) => Target::Refused(Fault::UnfitText),
-            Scan::Sound => find_set(file, group, key),
+            Some(_) => Target::Refused(Fault::UnfitText),
+            None => find_set(file, group, key),
         },
     }
 }

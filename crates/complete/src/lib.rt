@@ -117,15 +117,8 @@ fn is_wrong(l: &[u8]) -> bool
     ensures { result ≡ step.wrong_in l.now (read_line l.now) }
 {
     match line::read_line(l) {
-        Line::Entry {
-            key: _,
-            name,
-            value,
-        } => is_boolean_key(&l[..name]) & !is_boolean(&l[value..]),
-        Line::Blank => false,
-        Line::Comment => false,
-        Line::Header { end: _ } => false,
-        Line::Bad(_) => false,
+        Line::Entry { name, value, .. } => is_boolean_key(&l[..name]) & !is_boolean(&l[value..]),
+        Line::Blank | Line::Comment | Line::Header { .. } | Line::Bad(_) => false,
     }
 }
 

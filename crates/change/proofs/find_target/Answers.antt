@@ -1,12 +1,11 @@
 -- `find_target` meets its contract: the tests that led to each return say which refusal comes first. Assumes nothing.
 use Rattle.std.specs.Prelude.{Err}
-use mathlib.Core.Path.{◌≡◌, sym, ap, ◌∙◌}
+use mathlib.Core.Path.{◌≡◌, sym, ◌∙◌}
 use mathlib.Core.Bool.{true, false, ◌&&◌}
 use mathlib.Core.List.{List}
 use Prim.Native.Nat.{ℕ}
 use Rattle.fault.specs.declared.Fault.TheVariants.{BadArgument}
 use Rattle.text.specs.Escape.{fit_text}
-use Rattle.characters.specs.Step.{fault_of}
 use Rattle.line.specs.Form.{group_form, key_form}
 use Rattle.change.specs.Change.{edit_of}
 use Rattle.change.specs.Target.{request_by}
@@ -48,16 +47,16 @@ returns-in-Remove c =
     let f = c.find_remove.ensures in
     record { is = rw (c.in-Remove.is, good (goal.at.returns-in-Remove c).Else-not-is_key) (f.is a.text.now); inside = f.inside }
 
-pub returns-in-Fault : goal.returns-in-Fault
+pub returns-in-Some : goal.returns-in-Some
 unfolding edit_of fit_text
-returns-in-Fault c = record { is = rw (c.in-Set.is, good (goal.at.returns-in-Fault c).Else-not-is_key, ← (sym (ap fault_of c.in-Fault.is) ∙ c.scan.ensures)); inside = tt }
+returns-in-Some c = record { is = rw (c.in-Set.is, good (goal.at.returns-in-Some c).Else-not-is_key, ← (sym c.in-Some.is ∙ c.scan.ensures)); inside = tt }
 
-pub returns-in-Sound : goal.returns-in-Sound
+pub returns-in-None : goal.returns-in-None
 unfolding edit_of fit_text
-returns-in-Sound c =
+returns-in-None c =
     let a = c.args in
     let f = c.find_set.ensures in
     record {
-      is = rw (c.in-Set.is, good (goal.at.returns-in-Sound c).Else-not-is_key, ← (sym (ap fault_of c.in-Sound.is) ∙ c.scan.ensures)) (f.is a.text.now);
+      is = rw (c.in-Set.is, good (goal.at.returns-in-None c).Else-not-is_key, ← (sym c.in-None.is ∙ c.scan.ensures)) (f.is a.text.now);
       inside = f.inside;
     }

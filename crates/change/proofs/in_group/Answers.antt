@@ -26,15 +26,3 @@ slice_bounds-same-end c = omega (arith, within (goal.at.slice_bounds-same-end c)
 
 pub returns-in-Header : goal.returns-in-Header
 returns-in-Header c = λ g i. rw (← c.read_line.ensures, c.in-Header.is) c.same.ensures
-
-pub returns-in-Blank : goal.returns-in-Blank
-returns-in-Blank c = λ g i. rw (← c.read_line.ensures, c.in-Blank.is) i
-
-pub returns-in-Comment : goal.returns-in-Comment
-returns-in-Comment c = λ g i. rw (← c.read_line.ensures, c.in-Comment.is) i
-
-pub returns-in-Entry : goal.returns-in-Entry
-returns-in-Entry c = λ g i. rw (← c.read_line.ensures, c.in-Entry.is) i
-
-pub returns-in-Bad : goal.returns-in-Bad
-returns-in-Bad c = λ g i. rw (← c.read_line.ensures, c.in-Bad.is) i

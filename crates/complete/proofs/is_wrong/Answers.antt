@@ -27,15 +27,3 @@ slice_bounds-is_boolean-count c = (within (goal.at.slice_bounds-is_boolean-count
 
 pub slice_bounds-is_boolean-start : goal.slice_bounds-is_boolean-start
 slice_bounds-is_boolean-start c = (within (goal.at.slice_bounds-is_boolean-start c).In-Entry).3
-
-pub returns-in-Blank : goal.returns-in-Blank
-returns-in-Blank c = rw (← c.read_line.ensures, c.in-Blank.is)
-
-pub returns-in-Comment : goal.returns-in-Comment
-returns-in-Comment c = rw (← c.read_line.ensures, c.in-Comment.is)
-
-pub returns-in-Header : goal.returns-in-Header
-returns-in-Header c = rw (← c.read_line.ensures, c.in-Header.is)
-
-pub returns-in-Bad : goal.returns-in-Bad
-returns-in-Bad c = rw (← c.read_line.ensures, c.in-Bad.is)
