@@ -5,7 +5,6 @@ ghost use Rattle.std.specs.Prelude.{◌≡◌, ℕ, List};
 ghost use Rattle.fault.specs.Table.{number_of, place_of, byte_of};
 ghost use Rattle.wellformed.specs.Check as check;
 ghost use Rattle.entry.specs.Lookup as lookup;
-ghost use Rattle.text.specs.Output as output;
 ghost use Rattle.edit.specs.Calls as edit;
 ghost use Rattle.batch.specs.Batch as batch;
 ghost use Rattle.journal.specs.Lent as journal;
@@ -16,7 +15,6 @@ use edit::Edited;
 use entry::Ends;
 use fault::Fault;
 use journal::Named;
-use text::Written;
 use wellformed::Checked;
 
 // A refusal, as it is told.
@@ -60,17 +58,22 @@ pub fn tell_ends(e: Ends, place: &mut u64, byte: &mut u64, from: &mut u64, to: &
 }
 
 // The answer of a call with an output.
-pub fn tell_written(w: Written, place: &mut u64, byte: &mut u64, written: &mut u64) -> u32
-    ensures { ReturnedNumber (output.answered w) result place.new byte.new written.old written.new }
+pub fn tell_written(
+    w: Result<usize, Fault>,
+    place: &mut u64,
+    byte: &mut u64,
+    written: &mut u64,
+) -> u32
+    ensures { ReturnedNumber w result place.new byte.new written.old written.new }
 {
     match w {
-        Written::Bytes(n) => {
+        Ok(n) => {
             *place = 0;
             *byte = 0;
             *written = n as u64;
             0
         }
-        Written::Refused(f) => refuse(f, place, byte),
+        Err(f) => refuse(f, place, byte),
     }
 }
 

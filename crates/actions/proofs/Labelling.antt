@@ -22,8 +22,6 @@ use Rattle.record.proofs.Sizes.{length-record, list-of-cons, list-of-append}
 use Rattle.text.specs.Escape.{read_text}
 use Rattle.text.specs.Element.{raw_elements}
 use Rattle.text.specs.Step.{text_of, elements_in, spend, element_length}
-use Rattle.text.specs.declared.Left.{Left}
-use Rattle.text.specs.declared.Left.TheVariants as left
 use Rattle.text.proofs.Elements.{split}
 use Rattle.text.proofs.OutputLaws.{Leaves, leaves-refused, leaves-full, leaves-written}
 use Rattle.text.proofs.RoomLaws.{spend-zero, spend-add, spend-was, spend-lacks}
@@ -54,14 +52,14 @@ joint-given (Ok xs) (Err f) e = absurd (false≢true e)
 joint-given (Ok xs) (Ok ys) e = (refl, refl, refl)
 
 -- what was spent for the first is spent
-joint-spent : (room : Left) (a b : Answer (List (List ℕ))) {rest : Left} → Ok rest ≡ then (spend_list room) a → then (spend_list room) (joint a b) ≡ then (spend_list rest) b
+joint-spent : (room : Option ℕ) (a b : Answer (List (List ℕ))) {rest : Option ℕ} → Ok rest ≡ then (spend_list room) a → then (spend_list room) (joint a b) ≡ then (spend_list rest) b
 joint-spent room (Err f) b e = no (cc)
 joint-spent room (Ok xs) (Err f) e = refl
 joint-spent room (Ok xs) (Ok ys) {rest} e =
     let z : rest ≡ spend_list room xs = cc in
     rw (z, list-of-append 2 xs ys, length-append (list_of 2 xs) (list_of 2 ys)) (ap Ok (sym (spend-add room (length (list_of 2 xs)) (length (list_of 2 ys)))))
 
-joint-wrong : (room : Left) (a b : Answer (List (List ℕ))) {f : Fault} → Err f ≡ then (spend_list room) a → then (spend_list room) (joint a b) ≡ Err f
+joint-wrong : (room : Option ℕ) (a b : Answer (List (List ℕ))) {f : Fault} → Err f ≡ then (spend_list room) a → then (spend_list room) (joint a b) ≡ Err f
 joint-wrong room (Ok xs) b e = no (cc)
 joint-wrong room (Err g) b e = sym e
 
@@ -102,12 +100,12 @@ module _ (rs : List Row) (locale : List ℕ) where
   one-labelled id h = one-given id (read_text (label_value (action_group id))) (label-read id h)
 
   -- both records, spent one part after another
-  spend-pair : (room : Left) (id t : List ℕ) → spend (spend (spend room 12) (length id)) (length t) ≡ spend_list room (id ∷ t ∷ [])
+  spend-pair : (room : Option ℕ) (id t : List ℕ) → spend (spend (spend room 12) (length id)) (length t) ≡ spend_list room (id ∷ t ∷ [])
   spend-pair room id t =
       let n : 12 + length id + length t ≡ length (list_of 2 (id ∷ t ∷ [])) = omega (arith, length-cons 2 id (t ∷ []), length-cons 2 t [], ap length (list-none 2)) in
       spend-add (spend room 12) (length id) (length t) ∙ spend-add room 12 (length id + length t) ∙ ap (spend room) (omega (arith, n))
 
-  pair_left : (room : Left) (id : List ℕ) (a : Answer (List ℕ)) {n : ℕ} → Ok n ≡ then length a
+  pair_left : (room : Option ℕ) (id : List ℕ) (a : Answer (List ℕ)) {n : ℕ} → Ok n ≡ then length a
       → Ok (spend (spend (spend room 12) (length id)) n) ≡ then (spend_list room) (then (λ t. id ∷ t ∷ []) a)
   pair_left room id (Err f) w = no (cc)
   pair_left room id (Ok t) {n} w = let z : n ≡ length t = cc in rw z (ap Ok (spend-pair room id t))
@@ -118,7 +116,7 @@ module _ (rs : List Row) (locale : List ℕ) where
     abbrev here : Answer (List (List ℕ))
     here = labelled rs locale (listed_at rs raw i e)
 
-    pub left_out : is_listed_at rs raw i e ≡ false → (room : Left) → Ok room ≡ then (spend_list room) here
+    pub left_out : is_listed_at rs raw i e ≡ false → (room : Option ℕ) → Ok room ≡ then (spend_list room) here
     left_out f room = rw (f, labelled-none, list-none 2) (ap Ok (sym (spend-zero room)))
 
     pub nothing_put : is_listed_at rs raw i e ≡ false → (out : List ℕ) (at : ℕ)
@@ -132,10 +130,10 @@ module _ (rs : List Row) (locale : List ℕ) where
       pub here-is : here ≡ then (λ t. part i e raw ∷ t ∷ []) label
       here-is = rw h (one-labelled (part i e raw) (and_both (is_action rs (part i e raw)) (not (any (same (part i e raw)) (elements (take i raw)))) h).0)
 
-      pub label-wrong : {f : Fault} (room : Left) → label ≡ Err f → Err f ≡ then (spend_list room) here
+      pub label-wrong : {f : Fault} (room : Option ℕ) → label ≡ Err f → Err f ≡ then (spend_list room) here
       label-wrong room w = rw (here-is, w)
 
-      pub label-left : (room : Left) {n m : ℕ} {l k rest : Left} → e ≤ length raw → m ≡ e - i → Ok n ≡ then length label
+      pub label-left : (room : Option ℕ) {n m : ℕ} {l k rest : Option ℕ} → e ≤ length raw → m ≡ e - i → Ok n ≡ then length label
           → l ≡ spend room 12 → k ≡ spend l m → rest ≡ spend k n → Ok rest ≡ then (spend_list room) here
       label-left room {m = m} b c w x y z =
           let own : m ≡ length (part i e raw) = c ∙ sym (length_part i e raw b) in
@@ -219,25 +217,25 @@ module _ (rs : List Row) (raw locale : List ℕ) where
 
   -- ---- measuring: the room left and what those from the place on take are the whole answer
 
-  pub record RoomLeft (room i : ℕ) (rest : Left) : Type 0 where
+  pub record RoomLeft (room i : ℕ) (rest : Option ℕ) : Type 0 where
     pub parted : Parted raw i
-    pub goes : then (spend_list rest) (from i) ≡ then (spend_list (left.Bytes room)) whole
+    pub goes : then (spend_list rest) (from i) ≡ then (spend_list (Some room)) whole
 
-  pub room-start : (room : ℕ) → RoomLeft room 0 (left.Bytes room)
-  room-start room = record { parted = parted-start raw; goes = ap (λ (ids : List (List ℕ)). then (spend_list (left.Bytes room)) (labelled rs locale ids)) (later-start rs raw) }
+  pub room-start : (room : ℕ) → RoomLeft room 0 (Some room)
+  room-start room = record { parted = parted-start raw; goes = ap (λ (ids : List (List ℕ)). then (spend_list (Some room)) (labelled rs locale ids)) (later-start rs raw) }
 
-  module _ {room i : ℕ} {rest : Left} (s : RoomLeft room i rest) where
-    pub room-end : length raw ≤ i → Ok rest ≡ then (spend_list (left.Bytes room)) whole
+  module _ {room i : ℕ} {rest : Option ℕ} (s : RoomLeft room i rest) where
+    pub room-end : length raw ≤ i → Ok rest ≡ then (spend_list (Some room)) whole
     room-end h = sym (rw (later-end rs raw i h, labelled-none rs locale, list-none 2, spend-zero rest)) ∙ s.goes
 
     module _ {e : ℕ} (h : i < length raw) (q : e ≡ i + element_length (drop i raw) false) where
       abbrev own : Answer (List (List ℕ))
       own = labelled rs locale (listed_at rs raw i e)
 
-      pub room-wrong : {f : Fault} → Err f ≡ then (spend_list rest) own → Err f ≡ then (spend_list (left.Bytes room)) whole
+      pub room-wrong : {f : Fault} → Err f ≡ then (spend_list rest) own → Err f ≡ then (spend_list (Some room)) whole
       room-wrong w = sym (joint-wrong rest own (from (e + 1)) w) ∙ sym (ap (then (spend_list rest)) (from_next s.parted h q)) ∙ s.goes
 
-      pub room_next : {rest' : Left} → Ok rest' ≡ then (spend_list rest) own → RoomLeft room (e + 1) rest'
+      pub room_next : {rest' : Option ℕ} → Ok rest' ≡ then (spend_list rest) own → RoomLeft room (e + 1) rest'
       room_next w =
           record {
             parted = parted-next s.parted h q;
@@ -306,28 +304,28 @@ label-chosen file group locale = rw (chosen-stands file group (ascii "Name") loc
 -- ---- the whole answer
 
 module _ (a : Answer (List (List ℕ))) (out : List ℕ) where
-  pub records-wrong : {f : Fault} → Err f ≡ then (spend_list (left.Bytes (length out))) a → Leaves (then (list_of 2) a) out (Err f) out
+  pub records-wrong : {f : Fault} → Err f ≡ then (spend_list (Some (length out))) a → Leaves (then (list_of 2) a) out (Err f) out
   records-wrong {f} w = go a w
     where
-      go : (a : Answer (List (List ℕ))) → Err f ≡ then (spend_list (left.Bytes (length out))) a → Leaves (then (list_of 2) a) out (Err f) out
+      go : (a : Answer (List (List ℕ))) → Err f ≡ then (spend_list (Some (length out))) a → Leaves (then (list_of 2) a) out (Err f) out
       go (Ok xs) w = no (cc)
       go (Err g) w = let z : ◌≡◌ {A = Answer (List ℕ)} (Err g) (Err f) = cc in leaves-refused (Err g) f out z
 
-  pub records-short : Ok left.Short ≡ then (spend_list (left.Bytes (length out))) a → Leaves (then (list_of 2) a) out (Err NoRoom) out
+  pub records-short : Ok None ≡ then (spend_list (Some (length out))) a → Leaves (then (list_of 2) a) out (Err NoRoom) out
   records-short w = go a w
     where
-      go : (a : Answer (List (List ℕ))) → Ok left.Short ≡ then (spend_list (left.Bytes (length out))) a → Leaves (then (list_of 2) a) out (Err NoRoom) out
+      go : (a : Answer (List (List ℕ))) → Ok None ≡ then (spend_list (Some (length out))) a → Leaves (then (list_of 2) a) out (Err NoRoom) out
       go (Err g) w = no (cc)
-      go (Ok xs) w = let z : left.Short ≡ spend_list (left.Bytes (length out)) xs = cc in leaves-full (Ok (list_of 2 xs)) out refl (spend-lacks z)
+      go (Ok xs) w = let z : None ≡ spend_list (Some (length out)) xs = cc in leaves-full (Ok (list_of 2 xs)) out refl (spend-lacks z)
 
-  module _ {n : ℕ} (w : Ok (left.Bytes n) ≡ then (spend_list (left.Bytes (length out))) a) where
+  module _ {n : ℕ} (w : Ok (Some n) ≡ then (spend_list (Some (length out))) a) where
     pub records-fit : (accepted a ≡ true) × (length (list_of 2 (elements_in a)) ≤ length out)
     records-fit = go a w
       where
-        go : (a : Answer (List (List ℕ))) → Ok (left.Bytes n) ≡ then (spend_list (left.Bytes (length out))) a
+        go : (a : Answer (List (List ℕ))) → Ok (Some n) ≡ then (spend_list (Some (length out))) a
             → (accepted a ≡ true) × (length (list_of 2 (elements_in a)) ≤ length out)
         go (Err g) w = no (cc)
-        go (Ok xs) w = let z : left.Bytes n ≡ spend_list (left.Bytes (length out)) xs = cc in (refl, spend-was z)
+        go (Ok xs) w = let z : Some n ≡ spend_list (Some (length out)) xs = cc in (refl, spend-was z)
 
     pub records-put : {r : ℕ} {out' : List ℕ} → (r ≡ length (list_of 2 (elements_in a))) × (out' ≡ at_front out (list_of 2 (elements_in a)))
         → Leaves (then (list_of 2) a) out (Ok r) out'

@@ -1,11 +1,10 @@
 -- What the inner functions of this crate answer, by the definitions of actions. Assumes nothing.
-use Rattle.std.specs.Prelude.{ℕ, Bool, false, List, [], ◌∷◌, length, take}
+use Rattle.std.specs.Prelude.{ℕ, Bool, false, List, [], ◌∷◌, length, take, Option}
 use Rattle.base.specs.Choice.{pick}
 use Rattle.base.specs.Lists.{part}
 use Rattle.record.specs.Record.{list_of}
 use Rattle.text.specs.Element.{raw_elements}
 use Rattle.text.specs.Step.{spend}
-use Rattle.text.specs.declared.Left.{Left}
 use Rattle.rows.specs.Rows.{Row}
 use Rattle.actions.specs.Actions.{action_group, is_new}
 
@@ -26,5 +25,5 @@ abbrev pub listed_at : List Row → List ℕ → ℕ → ℕ → List (List ℕ)
 listed_at rs raw i e = pick (is_listed_at rs raw i e) (part i e raw ∷ []) []
 
 -- the room left after the records of some bodies
-abbrev pub spend_list : Left → List (List ℕ) → Left
+abbrev pub spend_list : Option ℕ → List (List ℕ) → Option ℕ
 spend_list room bodies = spend room (length (list_of 2 bodies))

@@ -5,8 +5,8 @@ ghost use Rattle.base.specs.Lists.{ascii};
 ghost use Rattle.base.specs.Over.{over, at_front};
 ghost use Rattle.fault.specs.Answer.{accepted, then};
 ghost use Rattle.record.specs.Record.{list_of};
-ghost use Rattle.text.specs.Output.{answered, written_length, held};
-ghost use Rattle.text.specs.Step.{room_of, elements_in};
+ghost use Rattle.text.specs.Output.{written_length, held};
+ghost use Rattle.text.specs.Step.{elements_in};
 ghost use Rattle.line.specs.Form.{locale_form};
 ghost use Rattle.rows.specs.Rows.{read_rows, raw_value};
 ghost use Rattle.rows.specs.Find.{none_bad};
@@ -17,7 +17,7 @@ ghost use Rattle.actions.specs.Step.{elements, listed_at, spend_list};
 use crate::listed;
 use entry::Ends;
 use fault::Fault;
-use text::{Escapes, Left, Measure, Room, Written};
+use text::Escapes;
 
 // The raw value of an action's label: its group's Name by locale.
 fn label<'a, 'b, 'c>(file: &'a [u8], group: &'b [u8], locale: &'c [u8]) -> &'a [u8]
@@ -31,38 +31,38 @@ fn label<'a, 'b, 'c>(file: &'a [u8], group: &'b [u8], locale: &'c [u8]) -> &'a [
 }
 
 // The room left after the records of an element, if it is listed, or where its label's escape is wrong. 12: the heads of both records.
-fn action_left(file: &[u8], raw: &[u8], i: usize, e: usize, locale: &[u8], left: Left) -> Room
+fn action_left(
+    file: &[u8],
+    raw: &[u8],
+    i: usize,
+    e: usize,
+    locale: &[u8],
+    left: Option<usize>,
+) -> Result<Option<usize>, Fault>
     requires { (none_bad file.now ≡ true) × (locale_form locale.now ≡ true) × (i ≤ e) × (e ≤ length raw.now) }
-    ensures { room_of result ≡ then (spend_list left) (labelled (read_rows file.now) locale.now (listed_at (read_rows file.now) raw.now i e)) }
+    ensures { result ≡ then (spend_list left) (labelled (read_rows file.now) locale.now (listed_at (read_rows file.now) raw.now i e)) }
 {
     let group = listed::group_at(file, raw, i, e);
     if group.len() == 0 {
-        return Room::Left(left);
+        return Ok(left);
     }
-    match text::escape::text_length(label(file, group, locale), Escapes::Text) {
-        Measure::Wrong(at) => Room::Wrong(at),
-        Measure::Length(n) => Room::Left(text::spend(text::spend(text::spend(left, 12), e - i), n)),
-    }
+    let n = text::escape::text_length(label(file, group, locale), Escapes::Text)?;
+    Ok(text::spend(text::spend(text::spend(left, 12), e - i), n))
 }
 
 // The room that all records leave, or where the first wrong label's escape is.
-fn all_left(file: &[u8], raw: &[u8], locale: &[u8], room: usize) -> Room
+fn all_left(file: &[u8], raw: &[u8], locale: &[u8], room: usize) -> Result<Option<usize>, Fault>
     requires { (none_bad file.now ≡ true) × (locale_form locale.now ≡ true) }
-    ensures { room_of result ≡ then (spend_list (Left.Bytes room)) (labelled (read_rows file.now) locale.now (listed_from (read_rows file.now) [] (elements raw.now))) }
+    ensures { result ≡ then (spend_list (Some room)) (labelled (read_rows file.now) locale.now (listed_from (read_rows file.now) [] (elements raw.now))) }
 {
-    let mut left = Left::Bytes(room);
+    let mut left = Some(room);
     let mut i: usize = 0;
     while i < raw.len() {
         let e = characters::classes::bare_end(raw, i, b';');
-        match action_left(file, raw, i, e, locale, left) {
-            Room::Wrong(at) => return Room::Wrong(at),
-            Room::Left(l) => {
-                left = l;
-                i = e + 1;
-            }
-        }
+        left = action_left(file, raw, i, e, locale, left)?;
+        i = e + 1;
     }
-    Room::Left(left)
+    Ok(left)
 }
 
 // The records of an element, if it is listed, through the part of an output that starts at a place; the answer is where they end.
@@ -108,16 +108,13 @@ fn put_all(file: &[u8], raw: &[u8], locale: &[u8], out: &mut [u8]) -> usize
 }
 
 // The records of the listed actions: the labels' 9 in list order, then 11.
-pub fn write_all(file: &[u8], raw: &[u8], locale: &[u8], out: &mut [u8]) -> Written
+pub fn write_all(file: &[u8], raw: &[u8], locale: &[u8], out: &mut [u8]) -> Result<usize, Fault>
     requires { (none_bad file.now ≡ true) × (locale_form locale.now ≡ true) }
-    ensures answer { answered result ≡ written_length (then (list_of 2) (labelled (read_rows file.now) locale.now (listed_from (read_rows file.now) [] (elements raw.now)))) out.old }
+    ensures answer { result ≡ written_length (then (list_of 2) (labelled (read_rows file.now) locale.now (listed_from (read_rows file.now) [] (elements raw.now)))) out.old }
     ensures output { out.new ≡ held (then (list_of 2) (labelled (read_rows file.now) locale.now (listed_from (read_rows file.now) [] (elements raw.now)))) out.old }
 {
-    match all_left(file, raw, locale, out.len()) {
-        Room::Wrong(at) => Written::Refused(Fault::BadEscape { at }),
-        Room::Left(left) => match left {
-            Left::Short => Written::Refused(Fault::NoRoom),
-            Left::Bytes(_) => Written::Bytes(put_all(file, raw, locale, out)),
-        },
+    match all_left(file, raw, locale, out.len())? {
+        None => Err(Fault::NoRoom),
+        Some(_) => Ok(put_all(file, raw, locale, out)),
     }
 }

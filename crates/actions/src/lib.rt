@@ -5,31 +5,28 @@ mod labels; // labels.rt: the records of identifiers and labels
 mod listed; // listed.rt: which actions are listed
 
 ghost use Rattle.std.specs.Prelude.{◌≡◌};
-ghost use Rattle.text.specs.Output.{answered, written_length, held};
+ghost use Rattle.text.specs.Output.{written_length, held};
 ghost use Rattle.actions.specs.Actions as spec;
 
 use exec::Counted;
 use fault::Fault;
-use text::{Room, Written};
 use wellformed::Checked;
 
 // The identifiers and labels of the listed actions as records of kind 2: 1 to 6, 7, Actions' 9, the labels' 9 in list order, 11.
-pub fn actions(file: &[u8], locale: &[u8], out: &mut [u8]) -> Written
-    ensures answer { answered result ≡ written_length (spec.actions file.now locale.now) out.old }
+pub fn actions(file: &[u8], locale: &[u8], out: &mut [u8]) -> Result<usize, Fault>
+    ensures answer { result ≡ written_length (spec.actions file.now locale.now) out.old }
     ensures output { out.new ≡ held (spec.actions file.now locale.now) out.old }
 {
     match wellformed::check(file) {
-        Checked::Refused(f) => Written::Refused(f),
+        Checked::Refused(f) => Err(f),
         Checked::Sound => {
             if line::form::is_locale(locale) {
                 let raw = listed::value(file);
                 // No room is asked for: this tells whether the list's escapes are right.
-                return match text::list::room_after(raw, 0) {
-                    Room::Wrong(at) => Written::Refused(Fault::BadEscape { at }),
-                    Room::Left(_) => labels::write_all(file, raw, locale, out),
-                };
+                text::list::room_after(raw, 0)?;
+                return labels::write_all(file, raw, locale, out);
             }
-            Written::Refused(Fault::BadArgument)
+            Err(Fault::BadArgument)
         }
     }
 }
@@ -44,24 +41,20 @@ pub fn expand_action(
     list: &[u8],
     run: usize,
     out: &mut [u8],
-) -> Written
-    ensures answer { answered result ≡ written_length (spec.expand_action file.now action.now locale.now location.now list.now run) out.old }
+) -> Result<usize, Fault>
+    ensures answer { result ≡ written_length (spec.expand_action file.now action.now locale.now location.now list.now run) out.old }
     ensures output { out.new ≡ held (spec.expand_action file.now action.now locale.now location.now list.now run) out.old }
 {
     match exec::ask(file, locale, location, list) {
-        Counted::Refused(f) => Written::Refused(f),
+        Counted::Refused(f) => Err(f),
         Counted::Items(count) => {
             let raw = listed::value(file);
-            match text::list::room_after(raw, 0) {
-                Room::Wrong(at) => Written::Refused(Fault::BadEscape { at }),
-                Room::Left(_) => {
-                    let group = listed::group_asked(file, raw, action);
-                    if group.len() == 0 {
-                        return Written::Refused(Fault::Missing);
-                    }
-                    exec::expand_group(file, group, locale, location, list, count, run, out)
-                }
+            text::list::room_after(raw, 0)?;
+            let group = listed::group_asked(file, raw, action);
+            if group.len() == 0 {
+                return Err(Fault::Missing);
             }
+            exec::expand_group(file, group, locale, location, list, count, run, out)
         }
     }
 }

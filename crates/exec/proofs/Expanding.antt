@@ -15,7 +15,6 @@ use Rattle.fault.specs.Answer.{Answer, ◌>>=◌, unless, then}
 use Rattle.fault.proofs.Answers.{then-refused, bind-then}
 use Rattle.record.specs.Record.{list_of}
 use Rattle.text.specs.Escape.{read_text}
-use Rattle.text.specs.declared.Written.TheVariants as written
 use Rattle.text.proofs.OutputLaws.{Leaves, leaves-refused}
 use Rattle.rows.specs.Rows.{Row, read_rows}
 use Rattle.rows.specs.Title.{Key, find_row, desktop_entry}
@@ -61,12 +60,12 @@ module _ (args : List Argument) (rs : List Row) (group locale location : List �
   run_past t = rw (← item-seen, ← k, t)
 
   module _ (t : ltb run (runs_of seen.item count) ≡ true) where
-    pub run-no-name : {s u : List ℕ} {f : Fault} → ReadTo (name_text rs locale seen.name) s (written.Refused f) u → answer ≡ Err f
+    pub run-no-name : {s u : List ℕ} {f : Fault} → ReadTo (name_text rs locale seen.name) s (Err f) u → answer ≡ Err f
     unfolding run_arguments runs
     run-no-name w = rw (← item-seen, ← k, t, ← name-seen, read-refuses (name_text rs locale seen.name) w)
 
     module _ {name : List ℕ} (n : name_text rs locale seen.name ≡ Ok name) where
-      pub run-no-icon : {s u : List ℕ} {f : Fault} → ReadTo (icon_text rs group locale seen.icon) s (written.Refused f) u → answer ≡ Err f
+      pub run-no-icon : {s u : List ℕ} {f : Fault} → ReadTo (icon_text rs group locale seen.icon) s (Err f) u → answer ≡ Err f
       unfolding run_arguments runs
       run-no-icon w = rw (← item-seen, ← k, t, ← name-seen, n, ← icon-seen, read-refuses (icon_text rs group locale seen.icon) w)
 
@@ -100,7 +99,7 @@ module _ (file group locale location : List ℕ) (items : List (List ℕ)) (run 
   group-missing i = rw (told-nothing exec_row i)
 
   module _ {v e : ℕ} (w : Value exec_row file v e) where
-    pub group-unread : {s u : List ℕ} {f : Fault} → ReadTo (read_text (part v e file)) s (written.Refused f) u → of_group ≡ Err f
+    pub group-unread : {s u : List ℕ} {f : Fault} → ReadTo (read_text (part v e file)) s (Err f) u → of_group ≡ Err f
     unfolding group_arguments
     group-unread r = rw (w.is, ← w.bytes, read-refuses (read_text (part v e file)) r)
 

@@ -18,11 +18,8 @@ use Rattle.fault.specs.declared.Fault.TheVariants.{BadEscape, Missing}
 use Rattle.fault.specs.Answer.{Answer, ◌>>=◌, some_or, then}
 use Rattle.text.proofs.OutputLaws.{Leaves}
 use Rattle.text.specs.Escape.{escape, text_from, read_text}
-use Rattle.text.specs.Output.{answered}
 use Rattle.text.specs.Step.{text_of}
 use Rattle.text.specs.declared.Escapes.{Escapes}
-use Rattle.text.specs.declared.Written.{Written}
-use Rattle.text.specs.declared.Written.TheVariants as written
 use Rattle.rows.specs.Rows.{Row, read_rows, raw_value}
 use Rattle.rows.specs.Title.{Title, find_row, desktop_entry}
 use Rattle.rows.specs.Find.{found_of}
@@ -67,12 +64,12 @@ read-le raw = text-le _ raw false 0
 -- ---- a text that was read to a buffer
 
 -- where there is room, the whole text is told and held
-pub read-room : (a : Answer (List ℕ)) (s : List ℕ) {r : Written} {t : List ℕ} → length (text_of a) ≤ length s → Leaves a s (answered r) t → ReadTo a s r t
+pub read-room : (a : Answer (List ℕ)) (s : List ℕ) {r : Answer ℕ} {t : List ℕ} → length (text_of a) ≤ length s → Leaves a s r t → ReadTo a s r t
 read-room (Ok x) s h p = record { tells = p.answer ∙ rw (le-leb (length x) (length s) h); is = p.output ∙ rw (le-leb (length x) (length s) h); fits = h }
 read-room (Err f) s h p = record { tells = p.answer; is = p.output; fits = h }
 
 -- the text is the buffer's front, as long as was told; or the refusal is the text's
-pub read-given : (a : Answer (List ℕ)) {s t : List ℕ} {n : ℕ} → ReadTo a s (written.Bytes n) t → (a ≡ Ok (take n t)) × (n ≤ length t)
+pub read-given : (a : Answer (List ℕ)) {s t : List ℕ} {n : ℕ} → ReadTo a s (Ok n) t → (a ≡ Ok (take n t)) × (n ≤ length t)
 read-given (Ok x) {s} {t} {n} w =
     let i = w.tells in
     let l : n ≡ length x = cc in
@@ -80,15 +77,15 @@ read-given (Ok x) {s} {t} {n} w =
     (rw (w.is, take_at x (drop (length x) s) n (sym l)), rw (w.is, length-append x (drop (length x) s)) (omega arith))
 read-given (Err f) w = let i = w.tells in no (cc)
 
-pub read-refuses : (a : Answer (List ℕ)) {s t : List ℕ} {f : Fault} → ReadTo a s (written.Refused f) t → a ≡ Err f
+pub read-refuses : (a : Answer (List ℕ)) {s t : List ℕ} {f : Fault} → ReadTo a s (Err f) t → a ≡ Err f
 read-refuses (Ok x) w = let i = w.tells in no (cc)
 read-refuses (Err g) w = let i = w.tells in cc
 
 -- nothing is read, or nothing could be
-pub read_none : (s : List ℕ) → ReadTo (Ok []) s (written.Bytes 0) s
+pub read_none : (s : List ℕ) → ReadTo (Ok []) s (Ok 0) s
 read_none s = record { tells = refl; is = refl; fits = omega arith }
 
-pub read-refused : {f : Fault} {r : Written} (s : List ℕ) → answered r ≡ Err f → ReadTo (Err f) s r s
+pub read-refused : {f : Fault} {r : Answer ℕ} (s : List ℕ) → r ≡ Err f → ReadTo (Err f) s r s
 read-refused s e = record { tells = e; is = refl; fits = omega arith }
 
 -- ---- the value of a row that was found
@@ -124,7 +121,7 @@ key-value file t {n} {p} {e} {v} i =
     row-value file t a.0 a.1 a.2
 
 -- its text, read to a buffer
-pub text-given : {o : Option Row} {file : List ℕ} {v e : ℕ} → Value o file v e → {s t : List ℕ} {n : ℕ} → ReadTo (read_text (part v e file)) s (written.Bytes n) t
+pub text-given : {o : Option Row} {file : List ℕ} {v e : ℕ} → Value o file v e → {s t : List ℕ} {n : ℕ} → ReadTo (read_text (part v e file)) s (Ok n) t
     → (read_text (part v e file) ≡ Ok (take n t)) × (n ≤ length t)
 text-given {file = file} {v = v} {e = e} w r = read-given (read_text (part v e file)) r
 

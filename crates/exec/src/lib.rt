@@ -9,7 +9,7 @@ ghost use Rattle.base.specs.Bounds.{file_most, list_most};
 ghost use Rattle.base.specs.Choice.{there};
 ghost use Rattle.fault.specs.Answer.{then};
 ghost use Rattle.record.specs.Record.{read_list, list_of};
-ghost use Rattle.text.specs.Output.{answered, written_length, held};
+ghost use Rattle.text.specs.Output.{written_length, held};
 ghost use Rattle.line.specs.Form.{locale_form};
 ghost use Rattle.rows.specs.Rows.{read_rows};
 ghost use Rattle.rows.specs.Find.{none_bad};
@@ -24,7 +24,6 @@ use command::{Checked, Seen};
 use fault::Fault;
 use record::{Bounds, Filled};
 use rows::Found;
-use text::{Left, Written};
 use wellformed::Checked as FileChecked;
 
 // What was asked: how many items there are, or the refusal.
@@ -94,25 +93,19 @@ fn run_command(
     count: usize,
     run: usize,
     out: &mut [u8],
-) -> Written
+) -> Result<usize, Fault>
     requires { (length exec.now ≤ file_most) × (seen ≡ codes_in (arguments_in exec.now)) × (none_bad file.now ≡ true) × (length file.now ≤ file_most)
         × (there (read_list 2 list_most list.now) ≡ true) × (count ≡ length (items_in list.now)) × (locale_form locale.now ≡ true) }
-    ensures answer { answered result ≡ written_length (then (list_of 3) (spec.run_arguments (arguments_in exec.now) (read_rows file.now) group.now
+    ensures answer { result ≡ written_length (then (list_of 3) (spec.run_arguments (arguments_in exec.now) (read_rows file.now) group.now
         locale.now location.now (items_in list.now) run)) out.old }
     ensures output { out.new ≡ held (then (list_of 3) (spec.run_arguments (arguments_in exec.now) (read_rows file.now) group.now
         locale.now location.now (items_in list.now) run)) out.old }
 {
     if in_runs(run, seen.item, count) {
         let mut name = [0u8; base::FILE_MOST];
-        let name_read = texts::name_text(file, locale, seen.name, &mut name);
-        let Written::Bytes(name_end) = name_read else {
-            return name_read;
-        };
+        let name_end = texts::name_text(file, locale, seen.name, &mut name)?;
         let mut icon = [0u8; base::FILE_MOST];
-        let icon_read = texts::icon_text(file, group, locale, seen.icon, &mut icon);
-        let Written::Bytes(icon_end) = icon_read else {
-            return icon_read;
-        };
+        let icon_end = texts::icon_text(file, group, locale, seen.icon, &mut icon)?;
         let item = item_at(list, run);
         return run::write_run(
             exec,
@@ -124,7 +117,7 @@ fn run_command(
             out,
         );
     }
-    Written::Refused(Fault::Missing)
+    Err(Fault::Missing)
 }
 
 // A run of the Exec in a group of a well-formed file, for a list of so many items: 8, 9, 15 and 16 by lowest place, and the run's refusals.
@@ -137,10 +130,10 @@ pub fn expand_group(
     count: usize,
     run: usize,
     out: &mut [u8],
-) -> Written
+) -> Result<usize, Fault>
     requires { (none_bad file.now ≡ true) × (length file.now ≤ file_most) × (there (read_list 2 list_most list.now) ≡ true) × (count ≡ length (items_in list.now))
         × (locale_form locale.now ≡ true) }
-    ensures answer { answered result ≡ written_length (then (list_of 3) (spec.group_arguments (read_rows file.now) group.now
+    ensures answer { result ≡ written_length (then (list_of 3) (spec.group_arguments (read_rows file.now) group.now
         locale.now location.now (items_in list.now) run)) out.old }
     ensures output { out.new ≡ held (then (list_of 3) (spec.group_arguments (read_rows file.now) group.now
         locale.now location.now (items_in list.now) run)) out.old }
@@ -152,15 +145,12 @@ pub fn expand_group(
         value,
     } = rows::find_key(file, group, b"Exec")
     else {
-        return Written::Refused(Fault::Missing);
+        return Err(Fault::Missing);
     };
     let mut exec = [0u8; base::FILE_MOST];
-    let read = texts::read_whole(&file[value..end], &mut exec);
-    let Written::Bytes(exec_end) = read else {
-        return read;
-    };
+    let exec_end = texts::read_whole(&file[value..end], &mut exec)?;
     match command::check_command(&exec[..exec_end]) {
-        Checked::Refused(f) => Written::Refused(f),
+        Checked::Refused(f) => Err(f),
         Checked::Sound(seen) => run_command(
             &exec[..exec_end],
             seen,
@@ -185,12 +175,12 @@ pub fn expand(
     list: &[u8],
     run: usize,
     out: &mut [u8],
-) -> Written
-    ensures answer { answered result ≡ written_length (spec.expand file.now locale.now location.now list.now run) out.old }
+) -> Result<usize, Fault>
+    ensures answer { result ≡ written_length (spec.expand file.now locale.now location.now list.now run) out.old }
     ensures output { out.new ≡ held (spec.expand file.now locale.now location.now list.now run) out.old }
 {
     match ask(file, locale, location, list) {
-        Counted::Refused(f) => Written::Refused(f),
+        Counted::Refused(f) => Err(f),
         Counted::Items(count) => {
             expand_group(
                 file,

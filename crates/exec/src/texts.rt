@@ -3,7 +3,6 @@ ghost use Rattle.std.specs.Prelude.{◌≡◌, true, ◌≤◌, length};
 ghost use Rattle.base.specs.Bounds.{file_most};
 ghost use Rattle.fault.specs.Answer.{then};
 ghost use Rattle.text.specs.Escape.{read_text};
-ghost use Rattle.text.specs.Output.{answered};
 ghost use Rattle.line.specs.Form.{locale_form};
 ghost use Rattle.rows.specs.Rows.{read_rows};
 ghost use Rattle.rows.specs.Find.{none_bad};
@@ -12,10 +11,10 @@ ghost use Rattle.exec.specs.Expand as spec;
 ghost use Rattle.exec.specs.Step.{ReadTo};
 
 use entry::Ends;
-use text::Written;
+use fault::Fault;
 
 // The text of a raw value, to the start of a buffer that is as long at least.
-pub fn read_whole(raw: &[u8], out: &mut [u8]) -> Written
+pub fn read_whole(raw: &[u8], out: &mut [u8]) -> Result<usize, Fault>
     requires { length raw.now ≤ length out.old }
     ensures { ReadTo (read_text raw.now) out.old result out.new }
 {
@@ -23,17 +22,17 @@ pub fn read_whole(raw: &[u8], out: &mut [u8]) -> Written
 }
 
 // The refusal of a choice, with its number and place; of one that was not refused, no bytes.
-fn refusal_of(e: Ends) -> Written
-    ensures { answered result ≡ then (λ _. 0) (ends.answered e) }
+fn refusal_of(e: Ends) -> Result<usize, Fault>
+    ensures { result ≡ then (λ _. 0) (ends.answered e) }
 {
     match e {
-        Ends::At { from: _, to: _ } => Written::Bytes(0),
-        Ends::Refused(f) => Written::Refused(f),
+        Ends::At { from: _, to: _ } => Ok(0),
+        Ends::Refused(f) => Err(f),
     }
 }
 
 // The text of Name by locale, where it is wanted.
-pub fn name_text(file: &[u8], locale: &[u8], wanted: bool, out: &mut [u8]) -> Written
+pub fn name_text(file: &[u8], locale: &[u8], wanted: bool, out: &mut [u8]) -> Result<usize, Fault>
     requires { (none_bad file.now ≡ true) × (length file.now ≤ file_most) × (file_most ≤ length out.old) × (locale_form locale.now ≡ true) }
     ensures { ReadTo (spec.name_text (read_rows file.now) locale.now wanted) out.old result out.new }
 {
@@ -44,19 +43,25 @@ pub fn name_text(file: &[u8], locale: &[u8], wanted: bool, out: &mut [u8]) -> Wr
         };
         return read_whole(&file[from..to], out);
     }
-    Written::Bytes(0)
+    Ok(0)
 }
 
 // The text of a group's Icon by locale, where it is wanted; a missing one is none. In a file already checked the choice is refused with 8 only.
-pub fn icon_text(file: &[u8], group: &[u8], locale: &[u8], wanted: bool, out: &mut [u8]) -> Written
+pub fn icon_text(
+    file: &[u8],
+    group: &[u8],
+    locale: &[u8],
+    wanted: bool,
+    out: &mut [u8],
+) -> Result<usize, Fault>
     requires { (none_bad file.now ≡ true) × (length file.now ≤ file_most) × (file_most ≤ length out.old) × (locale_form locale.now ≡ true) }
     ensures { ReadTo (spec.icon_text (read_rows file.now) group.now locale.now wanted) out.old result out.new }
 {
     if wanted {
         let Ends::At { from, to } = entry::chosen_ends(file, group, b"Icon", locale) else {
-            return Written::Bytes(0);
+            return Ok(0);
         };
         return read_whole(&file[from..to], out);
     }
-    Written::Bytes(0)
+    Ok(0)
 }

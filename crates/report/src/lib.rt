@@ -9,7 +9,6 @@ use entry::Ends;
 use fault::Fault;
 use journal::{Forgot, Named};
 use std::io;
-use text::Written;
 use wellformed::Checked;
 
 pub fn say(rt: &impl Print, words: &[u8]) -> io::Result<()> {
@@ -111,19 +110,19 @@ pub fn tell_value(rt: &impl Print, e: Ends, part: &[u8]) -> io::Result<()> {
     say(rt, b"\n")
 }
 
-fn say_written(rt: &impl Print, w: Written) -> io::Result<()> {
+fn say_written(rt: &impl Print, w: Result<usize, Fault>) -> io::Result<()> {
     match w {
-        Written::Bytes(n) => {
+        Ok(n) => {
             say(rt, b": ")?;
             say_number(rt, n)?;
             say(rt, b" bytes")
         }
-        Written::Refused(f) => say_refused(rt, f),
+        Err(f) => say_refused(rt, f),
     }
 }
 
 // The answer of a call that writes text, and the whole output.
-pub fn tell_text(rt: &impl Print, w: Written, out: &[u8]) -> io::Result<()> {
+pub fn tell_text(rt: &impl Print, w: Result<usize, Fault>, out: &[u8]) -> io::Result<()> {
     say_written(rt, w)?;
     say(rt, b", ")?;
     quote(rt, out)?;
@@ -131,7 +130,7 @@ pub fn tell_text(rt: &impl Print, w: Written, out: &[u8]) -> io::Result<()> {
 }
 
 // The answer of a call that writes records, and the whole output.
-pub fn tell_records(rt: &impl Print, w: Written, out: &[u8]) -> io::Result<()> {
+pub fn tell_records(rt: &impl Print, w: Result<usize, Fault>, out: &[u8]) -> io::Result<()> {
     say_written(rt, w)?;
     say(rt, b",")?;
     spaced_bytes(rt, out)?;

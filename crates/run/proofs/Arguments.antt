@@ -1,4 +1,5 @@
 -- The records of what arguments become, word after word. Assumes nothing.
+use Rattle.std.specs.Prelude.{Option}
 use mathlib.Core.Path.{◌≡◌, refl, sym, ◌∙◌}
 use Prim.Native.Nat.{ℕ, ◌+◌, ◌-◌, ◌≤◌, ◌<◌}
 use native.Mathlib.Omega.{arith}
@@ -9,7 +10,6 @@ use borrow.Author.Tests.{eq-eqb, ne_eqb}
 use Rattle.base.specs.Lists.{part, all}
 use Rattle.record.specs.Record.{list_of}
 use Rattle.record.proofs.Sizes.{list-of-append}
-use Rattle.text.specs.declared.Left.{Left}
 use Rattle.command.specs.declared.Form.TheVariants as form
 use Rattle.command.specs.Words.{word_length, inside_length}
 use Rattle.command.specs.Command.{Argument, pieces_of, form_of, argument_as, argument_of, arguments_in}
@@ -81,18 +81,18 @@ icon-some icon n = rw (ne_eqb (length icon) 0 n, length-cons 3 _ (icon ∷ []), 
 
 -- ---- measuring: the room left and what the words from the place on take are the whole answer
 
-pub record Measuring (r : Run) (s : List ℕ) (room₀ : Left) (i : ℕ) (room : Left) : Type 0 where
+pub record Measuring (r : Run) (s : List ℕ) (room₀ : Option ℕ) (i : ℕ) (room : Option ℕ) : Type 0 where
   pub inside : i ≤ length s
   pub same : spend room (length (records_at r s i)) ≡ spend room₀ (length (records_of r (arguments_in s)))
 
-pub measuring-start : {r : Run} {s : List ℕ} {room : Left} → Measuring r s room 0 room
+pub measuring-start : {r : Run} {s : List ℕ} {room : Option ℕ} → Measuring r s room 0 room
 measuring-start = record { inside = omega arith; same = refl }
 
-module _ {r : Run} {s : List ℕ} {room₀ : Left} {i : ℕ} {room : Left} (w : Measuring r s room₀ i room) where
+module _ {r : Run} {s : List ℕ} {room₀ : Option ℕ} {i : ℕ} {room : Option ℕ} (w : Measuring r s room₀ i room) where
   pub measuring-space : i < length s → get_or s i 0 ≡ 32 → Measuring r s room₀ (i + 1) room
   measuring-space h b = record { inside = omega arith; same = rw (← records-space r s i h b) w.same }
 
-  pub measuring-next : i < length s → {e : ℕ} {room₁ : Left} → (get_or s i 0 ≡ 32 → ⊥) → e ≡ i + word_length (drop i s) → (i < e) × (e ≤ length s)
+  pub measuring-next : i < length s → {e : ℕ} {room₁ : Option ℕ} → (get_or s i 0 ≡ 32 → ⊥) → e ≡ i + word_length (drop i s) → (i < e) × (e ≤ length s)
       → room₁ ≡ spend room (length (word_records r (part i e s))) → Measuring r s room₀ e room₁
   measuring-next h {e} n q b f =
       record {

@@ -8,13 +8,12 @@ ghost use Rattle.std.specs.Prelude.{◌≡◌, true, ◌≤◌, length, Ok};
 ghost use Rattle.base.specs.Bounds.{file_most, list_most};
 ghost use Rattle.base.specs.Choice.{there};
 ghost use Rattle.record.specs.Record.{read_list, list_of};
-ghost use Rattle.text.specs.Output.{answered, written_length, held};
+ghost use Rattle.text.specs.Output.{written_length, held};
 ghost use Rattle.command.specs.Command.{arguments_in};
 ghost use Rattle.run.specs.Run as run;
 ghost use Rattle.run.specs.Step as spec;
 
 use fault::Fault;
-use text::{Left, Written};
 
 // The records of a run's arguments, if there is room for them: 11.
 pub fn write_run(
@@ -25,9 +24,9 @@ pub fn write_run(
     icon: &[u8],
     location: &[u8],
     out: &mut [u8],
-) -> Written
+) -> Result<usize, Fault>
     requires { (length exec.now ≤ file_most) × (there (read_list 2 list_most list.now) ≡ true) }
-    ensures answer { answered result ≡ written_length (Ok (list_of 3 (run.expanded_all
+    ensures answer { result ≡ written_length (Ok (list_of 3 (run.expanded_all
         (run.run_of (spec.put_of item.now name.now location.now) (spec.items_in list.now) icon.now)
         (arguments_in exec.now)))) out.old }
     ensures output { out.new ≡ held (Ok (list_of 3 (run.expanded_all
@@ -35,9 +34,7 @@ pub fn write_run(
         (arguments_in exec.now)))) out.old }
 {
     match measure::run_left(exec, item, list, name, icon, location, out.len()) {
-        Left::Short => Written::Refused(Fault::NoRoom),
-        Left::Bytes(_) => Written::Bytes(write::put_run(
-            out, exec, item, list, name, icon, location,
-        )),
+        None => Err(Fault::NoRoom),
+        Some(_) => Ok(write::put_run(out, exec, item, list, name, icon, location)),
     }
 }

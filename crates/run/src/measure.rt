@@ -10,7 +10,6 @@ ghost use Rattle.run.specs.Run as run;
 ghost use Rattle.run.specs.Step as spec;
 
 use command::{Form, Piece};
-use text::Left;
 
 // How many bytes a piece stands for.
 fn piece_length(p: Piece, item: &[u8], name: &[u8], location: &[u8]) -> usize
@@ -32,8 +31,8 @@ fn pieces_left(
     item: &[u8],
     name: &[u8],
     location: &[u8],
-    left: Left,
-) -> Left
+    left: Option<usize>,
+) -> Option<usize>
     requires { length s.now ≤ file_most }
     ensures { result ≡ spend left (length (run.pieces_bytes (spec.put_of item.now name.now location.now) (pieces_of quoted s.now))) }
 {
@@ -59,7 +58,7 @@ pub fn pieces_length(
     requires { (length s.now ≤ file_most) × (length (run.pieces_bytes (spec.put_of item.now name.now location.now) (pieces_of quoted s.now)) ≤ room) }
     ensures { result ≡ length (run.pieces_bytes (spec.put_of item.now name.now location.now) (pieces_of quoted s.now)) }
 {
-    let Left::Bytes(left) = pieces_left(s, quoted, item, name, location, Left::Bytes(room)) else {
+    let Some(left) = pieces_left(s, quoted, item, name, location, Some(room)) else {
         return room;
     };
     room - left
@@ -95,7 +94,14 @@ pub fn is_dropped(s: &[u8], item: &[u8]) -> bool
 }
 
 // The room left after the record of an argument with these pieces.
-fn text_left(s: &[u8], quoted: bool, item: &[u8], name: &[u8], location: &[u8], left: Left) -> Left
+fn text_left(
+    s: &[u8],
+    quoted: bool,
+    item: &[u8],
+    name: &[u8],
+    location: &[u8],
+    left: Option<usize>,
+) -> Option<usize>
     requires { length s.now ≤ file_most }
     ensures { result ≡ spend left (length (list_of 3 (run.pieces_bytes (spec.put_of item.now name.now location.now) (pieces_of quoted s.now) ∷ []))) }
 {
@@ -103,7 +109,7 @@ fn text_left(s: &[u8], quoted: bool, item: &[u8], name: &[u8], location: &[u8], 
 }
 
 // The room left after the records of `--icon` and the Icon.
-fn icon_left(icon: &[u8], left: Left) -> Left
+fn icon_left(icon: &[u8], left: Option<usize>) -> Option<usize>
     ensures { result ≡ spend left (length (list_of 3 (run.icon_arguments icon.now))) }
 {
     if icon.len() == 0 {
@@ -120,8 +126,8 @@ fn word_left(
     name: &[u8],
     icon: &[u8],
     location: &[u8],
-    left: Left,
-) -> Left
+    left: Option<usize>,
+) -> Option<usize>
     requires { (0 < length word.now) × (length word.now ≤ file_most) × (there (read_list 2 list_most list.now) ≡ true) }
     ensures { result ≡ spend left (length (list_of 3 (run.expanded
         (run.run_of (spec.put_of item.now name.now location.now) (spec.items_in list.now) icon.now)
@@ -152,14 +158,14 @@ pub fn run_left(
     icon: &[u8],
     location: &[u8],
     room: usize,
-) -> Left
+) -> Option<usize>
     requires { (length exec.now ≤ file_most) × (there (read_list 2 list_most list.now) ≡ true) }
-    ensures { result ≡ spend (Left.Bytes room) (length (list_of 3 (run.expanded_all
+    ensures { result ≡ spend (Some room) (length (list_of 3 (run.expanded_all
         (run.run_of (spec.put_of item.now name.now location.now) (spec.items_in list.now) icon.now)
         (arguments_in exec.now)))) }
 {
     let mut i: usize = 0;
-    let mut left = Left::Bytes(room);
+    let mut left = Some(room);
     while i < exec.len() {
         if exec[i] == b' ' {
             i += 1;

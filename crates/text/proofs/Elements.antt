@@ -19,7 +19,7 @@ use Rattle.characters.specs.Bare.{bare_length}
 use Rattle.fault.specs.declared.Fault.{Fault}
 use Rattle.fault.specs.declared.Fault.TheVariants.{BadEscape, NoRoom}
 use Rattle.fault.specs.Answer.{Answer, ◌>>=◌, need, then, accepted}
-use Rattle.fault.proofs.Answers.{then-refused, bind-then}
+use Rattle.fault.proofs.Answers.{given_is, then-given, then-refused, bind-then}
 use Rattle.record.specs.Record.{record_length, record_bytes, list_bytes, list_of}
 use Rattle.record.proofs.Sizes.{length-record, list-of-cons}
 use Rattle.text.specs.Escape.{escape, text_from}
@@ -27,30 +27,23 @@ use Rattle.text.specs.Element.{raw_elements, each_read, elements_of, fits_record
 use Rattle.text.specs.Step.{text_of, elements_in, spend, spend_record, spend_all, element_length}
 use Rattle.text.specs.declared.Escapes.{Escapes}
 use Rattle.text.specs.declared.Escapes.TheVariants as escapes
-use Rattle.text.specs.declared.Left.{Left}
-use Rattle.text.specs.declared.Left.TheVariants as left
-use Rattle.text.proofs.OutputLaws.{Leaves, given-length, leaves-refused, leaves-full, leaves-written}
+use Rattle.text.proofs.OutputLaws.{Leaves, leaves-refused, leaves-full, leaves-written}
 
 -- ---- the text of some bytes does not depend on their place, and the place of a wrong escape moves with it
 
--- how many bytes stand where the place of a wrong escape is counted: the backslash that was passed is one of them
-abbrev extent : Bool → List ℕ → ℕ
-extent true s = suc (length s)
-extent false s = length s
-
 abbrev Everywhere : Escapes → List ℕ → Bool → ℕ → Answer (List ℕ) → Type 0
 Everywhere k s f at (Ok t) = (m : ℕ) → text_from k s f m ≡ Ok t
-Everywhere k s f at (Err g) = (p : ℕ) × (g ≡ BadEscape (at + p)) × ((m : ℕ) → text_from k s f m ≡ Err (BadEscape (m + p))) × (p ≤ extent f s)
+Everywhere k s f at (Err g) = (p : ℕ) × (g ≡ BadEscape (at + p)) × ((m : ℕ) → text_from k s f m ≡ Err (BadEscape (m + p)))
 
 -- w raw bytes before s stand for the byte x
-before-all : (k : Escapes) (s r : List ℕ) (f : Bool) (x w at : ℕ) → ((m : ℕ) → text_from k r f m ≡ then (λ t. x ∷ t) (text_from k s false (m + w))) → w + length s ≤ extent f r
+before-all : (k : Escapes) (s r : List ℕ) (f : Bool) (x w at : ℕ) → ((m : ℕ) → text_from k r f m ≡ then (λ t. x ∷ t) (text_from k s false (m + w)))
     → (a : Answer (List ℕ)) → Everywhere k s false (at + w) a → Everywhere k r f at (then (λ t. x ∷ t) a)
-before-all k s r f x w at h l (Ok t) e = λ m. h m ∙ ap (then (λ u. x ∷ u)) (e (m + w))
-before-all k s r f x w at h l (Err g) (p, i, e, b) =
-    (w + p, i ∙ ap BadEscape (omega arith), λ m. let q : m + w + p ≡ m + (w + p) = omega arith in h m ∙ ap (then (λ u. x ∷ u)) (e (m + w)) ∙ rw q, omega arith)
+before-all k s r f x w at h (Ok t) e = λ m. h m ∙ ap (then (λ u. x ∷ u)) (e (m + w))
+before-all k s r f x w at h (Err g) (p, i, e) =
+    (w + p, i ∙ ap BadEscape (omega arith), λ m. let q : m + w + p ≡ m + (w + p) = omega arith in h m ∙ ap (then (λ u. x ∷ u)) (e (m + w)) ∙ rw q)
 
 wrong-all : (k : Escapes) (s : List ℕ) (f : Bool) (at : ℕ) → ((m : ℕ) → text_from k s f m ≡ Err (BadEscape m)) → Everywhere k s f at (Err (BadEscape at))
-wrong-all k s f at h = (0, ap BadEscape (omega arith), λ m. let q : m + 0 ≡ m = omega arith in h m ∙ rw q, omega arith)
+wrong-all k s f at h = (0, ap BadEscape (omega arith), λ m. let q : m + 0 ≡ m = omega arith in h m ∙ rw q)
 
 everywhere : (k : Escapes) (s : List ℕ) (f : Bool) (at : ℕ) → Everywhere k s f at (text_from k s f at)
 unfolding text_from
@@ -61,17 +54,17 @@ everywhere k (b ∷ bs) true at = go (escape k b) refl (everywhere k bs false (a
     go : (o : Option ℕ) → escape k b ≡ o → Everywhere k bs false (at + 2) (text_from k bs false (at + 2))
         → Everywhere k (b ∷ bs) true at (maybe o (Err (BadEscape at)) (λ x. then (λ t. x ∷ t) (text_from k bs false (at + 2))))
     go None q ih = wrong-all k (b ∷ bs) true at (λ m. rw q)
-    go (Some x) q ih = before-all k bs (b ∷ bs) true x 2 at (λ m. rw q) (omega arith) (text_from k bs false (at + 2)) ih
+    go (Some x) q ih = before-all k bs (b ∷ bs) true x 2 at (λ m. rw q) (text_from k bs false (at + 2)) ih
 everywhere k (b ∷ bs) false at = go (eqb b 92) refl (everywhere k bs true at) (everywhere k bs false (at + 1))
   where
     same-all : (a : Answer (List ℕ)) → eqb b 92 ≡ true → Everywhere k bs true at a → Everywhere k (b ∷ bs) false at a
     same-all (Ok t) q e = λ m. rw q (e m)
-    same-all (Err g) q (p, i, e, l) = (p, i, λ m. rw q (e m), l)
+    same-all (Err g) q (p, i, e) = (p, i, λ m. rw q (e m))
 
     go : (t : Bool) → eqb b 92 ≡ t → Everywhere k bs true at (text_from k bs true at) → Everywhere k bs false (at + 1) (text_from k bs false (at + 1))
         → Everywhere k (b ∷ bs) false at (pick t (text_from k bs true at) (then (λ u. b ∷ u) (text_from k bs false (at + 1))))
     go true q pair single = same-all (text_from k bs true at) q pair
-    go false q pair single = before-all k bs (b ∷ bs) false b 1 at (λ m. rw q) (omega arith) (text_from k bs false (at + 1)) single
+    go false q pair single = before-all k bs (b ∷ bs) false b 1 at (λ m. rw q) (text_from k bs false (at + 1)) single
 
 module _ (k : Escapes) (s : List ℕ) (at : ℕ) where
   pub text-anywhere : accepted (text_from k s false 0) ≡ true → text_from k s false at ≡ Ok (text_of (text_from k s false 0))
@@ -80,20 +73,6 @@ module _ (k : Escapes) (s : List ℕ) (at : ℕ) where
       go : (a : Answer (List ℕ)) → accepted a ≡ true → Everywhere k s false 0 a → text_from k s false at ≡ Ok (text_of a)
       go (Ok t) h e = e at
       go (Err g) h e = absurd (false≢true h)
-
-  pub wrong-anywhere : {p : ℕ} → text_from k s false 0 ≡ Err (BadEscape p) → text_from k s false at ≡ Err (BadEscape (at + p))
-  wrong-anywhere {p} h = go (text_from k s false 0) h (everywhere k s false 0)
-    where
-      go : (a : Answer (List ℕ)) → a ≡ Err (BadEscape p) → Everywhere k s false 0 a → text_from k s false at ≡ Err (BadEscape (at + p))
-      go (Ok t) h e = no (cc)
-      go (Err g) h (q, i, e, l) = let y : p ≡ 0 + q = cc in let z : p ≡ q = omega arith in rw z (e at)
-
-  pub wrong-within : {p : ℕ} → text_from k s false 0 ≡ Err (BadEscape p) → p ≤ length s
-  wrong-within {p} h = go (text_from k s false 0) h (everywhere k s false 0)
-    where
-      go : (a : Answer (List ℕ)) → a ≡ Err (BadEscape p) → Everywhere k s false 0 a → p ≤ length s
-      go (Ok t) h e = no (cc)
-      go (Err g) h (q, i, e, l) = let y : p ≡ 0 + q = cc in omega arith
 
 -- ---- the first raw element, and the others
 
@@ -172,59 +151,61 @@ module _ (raw : List ℕ) (i : ℕ) {e : ℕ} (h : i < length raw) (q : e ≡ i 
   next : i + length element + 1 ≡ e + 1
   next = omega (arith, long, element-end.0)
 
-  pub element-wrong : {p : ℕ} → own ≡ Err (BadEscape p) → elements_at raw i ≡ Err (BadEscape (i + p))
+  -- its text, counted from the start of the raw value
+  abbrev pub placed : Answer (List ℕ)
+  placed = text_from escapes.List element false i
+
+  element-wrong : {f : Fault} → placed ≡ Err f → elements_at raw i ≡ Err f
   unfolding each_read
-  element-wrong w = rw (split, wrong-anywhere escapes.List element i w)
+  element-wrong w = rw (split, w)
+
+  element-given : {t : List ℕ} → placed ≡ Ok t → elements_at raw i ≡ then (λ ts. t ∷ ts) (elements_at raw (e + 1))
+  unfolding each_read
+  element-given {t} g = rw (split, g, next) (bind-then (λ ts. t ∷ ts) (elements_at raw (e + 1)))
 
   pub element-read : accepted own ≡ true → elements_at raw i ≡ then (λ ts. text_of own ∷ ts) (elements_at raw (e + 1))
-  unfolding each_read
-  element-read a = rw (split, text-anywhere escapes.List element i a, next) (bind-then (λ ts. text_of own ∷ ts) (elements_at raw (e + 1)))
+  element-read a = element-given (text-anywhere escapes.List element i a)
 
 -- ---- the room that is left
 
-spend-cons : (room : Left) (t : List ℕ) (a : Answer (List (List ℕ))) → then (spend_all room) (then (λ ts. t ∷ ts) a) ≡ then (spend_all (spend_record room (length t))) a
+spend-cons : (room : Option ℕ) (t : List ℕ) (a : Answer (List (List ℕ))) → then (spend_all room) (then (λ ts. t ∷ ts) a) ≡ then (spend_all (spend_record room (length t))) a
 unfolding spend_all
 spend-cons room t (Ok ts) = refl
 spend-cons room t (Err f) = refl
 
-pub record RoomLeft (raw : List ℕ) (room i : ℕ) (rest : Left) : Type 0 where
-  pub goes : then (spend_all rest) (elements_at raw i) ≡ then (spend_all (left.Bytes room)) (elements_of raw)
+pub record RoomLeft (raw : List ℕ) (room i : ℕ) (rest : Option ℕ) : Type 0 where
+  pub goes : then (spend_all rest) (elements_at raw i) ≡ then (spend_all (Some room)) (elements_of raw)
 
-pub room-start : (raw : List ℕ) (room : ℕ) → RoomLeft raw room 0 (left.Bytes room)
+pub room-start : (raw : List ℕ) (room : ℕ) → RoomLeft raw room 0 (Some room)
 unfolding elements_of
 room-start raw room = record { goes = refl }
 
-module _ {raw : List ℕ} {room i : ℕ} {rest : Left} (s : RoomLeft raw room i rest) where
-  pub room-end : length raw ≤ i → Ok rest ≡ then (spend_all (left.Bytes room)) (elements_of raw)
+module _ {raw : List ℕ} {room i : ℕ} {rest : Option ℕ} (s : RoomLeft raw room i rest) where
+  pub room-end : length raw ≤ i → Ok rest ≡ then (spend_all (Some room)) (elements_of raw)
   unfolding spend_all
   room-end h = rw (elements-done raw i h) at s.goes
 
   module _ {e : ℕ} (h : i < length raw) (q : e ≡ i + element_length (drop i raw) false) where
-    pub room-wrong : {p : ℕ} → Err (BadEscape p) ≡ then length (own raw i h q) → Err (BadEscape (i + p)) ≡ then (spend_all (left.Bytes room)) (elements_of raw)
-    room-wrong {p} w = rw (element-wrong raw i h q (then-refused length (own raw i h q) w)) at s.goes
+    pub room-wrong : {f : Fault} → Err f ≡ then length (placed raw i h q) → Err f ≡ then (spend_all (Some room)) (elements_of raw)
+    room-wrong w = rw (element-wrong raw i h q (then-refused length (placed raw i h q) w)) at s.goes
 
-    -- its place is inside
-    pub room-place : {p : ℕ} → Err (BadEscape p) ≡ then length (own raw i h q) → i + p ≤ length raw
-    room-place {p} w =
-        let b = wrong-within escapes.List (element raw i h q) 0 (then-refused length (own raw i h q) w) in
-        omega (arith, long raw i h q, element-end raw i h q)
-
-    pub room_next : {n : ℕ} {rest' : Left} → Ok n ≡ then length (own raw i h q) → rest' ≡ spend_record rest n → RoomLeft raw room (e + 1) rest'
+    pub room_next : {n : ℕ} {rest' : Option ℕ} → Ok n ≡ then length (placed raw i h q) → rest' ≡ spend_record rest n → RoomLeft raw room (e + 1) rest'
     room_next {n} w r =
-        let g = given-length (own raw i h q) n w in
-        record { goes = rw (r, g.1) (sym (spend-cons rest (text_of (own raw i h q)) (elements_at raw (e + 1))) ∙ rw (element-read raw i h q g.0) at s.goes) }
+        let (t, g) = then-given length (placed raw i h q) w in
+        let l : n ≡ length t = given_is n (length t) (w ∙ ap (then length) g) in
+        record { goes = rw (r, l) (sym (spend-cons rest t (elements_at raw (e + 1))) ∙ rw (element-given raw i h q g) at s.goes) }
 
 -- ---- what the room that is left says
 
-short-record : (n : ℕ) → spend_record left.Short n ≡ left.Short
+short-record : (n : ℕ) → spend_record None n ≡ None
 unfolding spend_record spend
 short-record n = go (ltb (6 + n) 0x100000000)
   where
-    go : (t : Bool) → pick t left.Short left.Short ≡ left.Short
+    go : (t : Bool) → ◌≡◌ {A = Option ℕ} (pick t None None) None
     go true = refl
     go false = refl
 
-short-stays : (es : List (List ℕ)) → spend_all left.Short es ≡ left.Short
+short-stays : (es : List (List ℕ)) → spend_all None es ≡ None
 unfolding spend_all
 short-stays [] = refl
 short-stays (e ∷ es) = rw (short-record (length e)) (short-stays es)
@@ -233,68 +214,68 @@ length-cons : (e : List ℕ) (es : List (List ℕ)) → length (list_of 2 (e ∷
 length-cons e es = rw (list-of-cons 2 e es, length-append, length-record)
 
 -- every element has its record, and there is room for all
-abbrev Enough : ℕ → List (List ℕ) → Left → Type 0
-Enough room es (left.Bytes n) = (all fits_record es ≡ true) × (length (list_of 2 es) ≤ room)
-Enough room es left.Short = (all fits_record es ≡ true) → room < length (list_of 2 es)
+abbrev Enough : ℕ → List (List ℕ) → Option ℕ → Type 0
+Enough room es (Some n) = (all fits_record es ≡ true) × (length (list_of 2 es) ≤ room)
+Enough room es None = (all fits_record es ≡ true) → room < length (list_of 2 es)
 
-enough : (es : List (List ℕ)) (room : ℕ) → Enough room es (spend_all (left.Bytes room) es)
+enough : (es : List (List ℕ)) (room : ℕ) → Enough room es (spend_all (Some room) es)
 unfolding spend_all spend_record spend all
 enough [] room = (refl, unfold list_of list_bytes joined in omega arith)
 enough (e ∷ es) room = go (fits_record e) (leb (record_length e) room) refl refl (enough es (room - record_length e))
   where
-    fits_more : (x : Left) → leb (record_length e) room ≡ true → Enough (room - record_length e) es x → fits_record e ≡ true → Enough room (e ∷ es) x
-    fits_more (left.Bytes n) l w f =
+    fits_more : (x : Option ℕ) → leb (record_length e) room ≡ true → Enough (room - record_length e) es x → fits_record e ≡ true → Enough room (e ∷ es) x
+    fits_more (Some n) l w f =
         let c = length-cons e es in
         let b = leb-true (record_length e) room l in
         (rw f w.0, omega (arith, w.1))
-    fits_more left.Short l w f =
+    fits_more None l w f =
         λ a.
         let c = length-cons e es in
         let b = leb-true (record_length e) room l in
         let z : room - record_length e < length (list_of 2 es) = w (rw f at a) in
         omega arith
 
-    go : (t u : Bool) → fits_record e ≡ t → leb (record_length e) room ≡ u → Enough (room - record_length e) es (spend_all (left.Bytes (room - record_length e)) es)
-        → Enough room (e ∷ es) (spend_all (pick t (pick u (left.Bytes (room - record_length e)) left.Short) left.Short) es)
-    go true true f l ih = fits_more (spend_all (left.Bytes (room - record_length e)) es) l ih f
+    go : (t u : Bool) → fits_record e ≡ t → leb (record_length e) room ≡ u → Enough (room - record_length e) es (spend_all (Some (room - record_length e)) es)
+        → Enough room (e ∷ es) (spend_all (pick t (pick u (Some (room - record_length e)) None) None) es)
+    go true true f l ih = fits_more (spend_all (Some (room - record_length e)) es) l ih f
     go true false f l ih = rw (short-stays es) (λ a. let c = length-cons e es in let b = leb-false (record_length e) room l in omega arith)
     go false u f l ih = rw (short-stays es) (λ a. absurd (false≢true (rw f at a)))
 
 -- ---- the whole answer
 
 module _ (raw out : List ℕ) where
-  pub list-refused : {f : Fault} → Err f ≡ then (spend_all (left.Bytes (length out))) (elements_of raw) → Leaves (read_elements raw) out (Err f) out
+  pub list-refused : {f : Fault} → Err f ≡ then (spend_all (Some (length out))) (elements_of raw) → Leaves (read_elements raw) out (Err f) out
   unfolding read_elements
   list-refused {f} w = go (elements_of raw) w
     where
-      go : (a : Answer (List (List ℕ))) → Err f ≡ then (spend_all (left.Bytes (length out))) a
+      go : (a : Answer (List (List ℕ))) → Err f ≡ then (spend_all (Some (length out))) a
           → Leaves (a >>= λ es. need (all fits_record es) NoRoom >>= λ _. Ok (list_of 2 es)) out (Err f) out
       go (Ok es) w = no (cc)
       go (Err g) w = let z : ◌≡◌ {A = Answer (List ℕ)} (Err g) (Err f) = cc in leaves-refused (Err g) f out z
 
-  pub list-short : Ok left.Short ≡ then (spend_all (left.Bytes (length out))) (elements_of raw) → Leaves (read_elements raw) out (Err NoRoom) out
+  pub list-short : Ok None ≡ then (spend_all (Some (length out))) (elements_of raw) → Leaves (read_elements raw) out (Err NoRoom) out
   unfolding read_elements
   list-short w = go (elements_of raw) w
     where
-      go : (a : Answer (List (List ℕ))) → Ok left.Short ≡ then (spend_all (left.Bytes (length out))) a
+      go : (a : Answer (List (List ℕ))) → Ok None ≡ then (spend_all (Some (length out))) a
           → Leaves (a >>= λ es. need (all fits_record es) NoRoom >>= λ _. Ok (list_of 2 es)) out (Err NoRoom) out
       go (Err g) w = no (cc)
       go (Ok es) w = by (all fits_record es) refl (enough es (length out))
         where
-          z : spend_all (left.Bytes (length out)) es ≡ left.Short
+          z : spend_all (Some (length out)) es ≡ None
           z = cc
 
-          by : (t : Bool) → all fits_record es ≡ t → Enough (length out) es (spend_all (left.Bytes (length out)) es)
+          by : (t : Bool) → all fits_record es ≡ t → Enough (length out) es (spend_all (Some (length out)) es)
               → Leaves (need t NoRoom >>= λ _. Ok (list_of 2 es)) out (Err NoRoom) out
           by true f n = leaves-full (Ok (list_of 2 es)) out refl ((rw z at n) f)
           by false f n = leaves-refused (Err NoRoom) NoRoom out refl
 
-  module _ {n : ℕ} (w : Ok (left.Bytes n) ≡ then (spend_all (left.Bytes (length out))) (elements_of raw)) where
-    fits : (a : Answer (List (List ℕ))) → Ok (left.Bytes n) ≡ then (spend_all (left.Bytes (length out))) a
+  module _ {n : ℕ} (w : Ok (Some n) ≡ then (spend_all (Some (length out))) (elements_of raw)) where
+    fits : (a : Answer (List (List ℕ))) → Ok (Some n) ≡ then (spend_all (Some (length out))) a
         → (accepted a ≡ true) × (all fits_record (elements_in a) ≡ true) × (length (list_of 2 (elements_in a)) ≤ length out)
     fits (Err g) w = no (cc)
     fits (Ok es) w =
-        let z : spend_all (left.Bytes (length out)) es ≡ left.Bytes n = cc in
+        let z : spend_all (Some (length out)) es ≡ Some n = cc in
         let e = rw z at (enough es (length out)) in
         (refl, e.0, e.1)
 
@@ -344,8 +325,8 @@ module _ {raw out₀ out : List ℕ} {i at : ℕ} (w : Listing raw out₀ out i 
           where
             wrong : (g : Fault) → own raw i h q ≡ Err g → Everywhere escapes.List (element raw i h q) false 0 (own raw i h q) → false ≡ true
             wrong g z v =
-                let (p, k, m, l) = rw z at v in
-                sym (ap accepted (element-wrong raw i h q {p = 0 + p} (z ∙ ap Err k))) ∙ w.sound
+                let (p, k, m) = rw z at v in
+                sym (ap accepted (element-wrong raw i h q (m i))) ∙ w.sound
 
     abbrev body : List ℕ
     body = text_of (own raw i h q)

@@ -1,17 +1,18 @@
 -- The raw value of a text, a byte of the text at a time. Assumes nothing.
-use Rattle.std.specs.Prelude.{Some, None, Ok, Err}
-use mathlib.Core.Path.{◌≡◌, refl, ap, ◌∙◌}
+use Rattle.std.specs.Prelude.{Option, Some, None, Ok, Err, is_some}
+use mathlib.Core.Path.{◌≡◌, refl, ap}
 use Prim.Native.Nat.{ℕ, ◌+◌, ◌*◌, ◌≤◌, ◌<◌}
 use native.Mathlib.Omega.{arith}
 use mathlib.Core.Bool.{Bool, true, false}
 use mathlib.Core.List.{List, [], ◌∷◌, ◌++◌}
 use lib.ListN.{length, drop, get_or, set}
 use lib.Dec.{eqb}
-use borrow.Author.Tests.{eq-eqb, ne_eqb}
+use borrow.Author.Tests.{ne_eqb}
 use Rattle.base.specs.Choice.{pick}
 use Rattle.base.specs.Lists.{ascii}
 use Rattle.base.specs.Over.{at_front}
 use Rattle.base.proofs.Scan.{here, done}
+use Rattle.base.proofs.Tests.{no}
 use Rattle.base.proofs.Fill.{Fill, fill-length, fill-as, fill-byte, fill_end}
 use Rattle.fault.specs.declared.Fault.TheVariants.{UnfitText}
 use Rattle.characters.specs.Class.{text_byte}
@@ -21,8 +22,9 @@ use Rattle.text.specs.Escape.{escaped, escaped_all, raw_text, fit_text, write_te
 use Rattle.text.specs.Step.{letter, letter_of}
 
 -- a byte by its letter: itself, or a backslash and the letter
-abbrev spelled : ℕ → ℕ → List ℕ
-spelled c b = pick (eqb c 0) (b ∷ []) (92 ∷ c ∷ [])
+abbrev spelled : Option ℕ → ℕ → List ℕ
+spelled None b = b ∷ []
+spelled (Some c) b = 92 ∷ c ∷ []
 
 escaped-letter : (b : ℕ) → escaped b ≡ spelled (letter b) b
 unfolding escaped letter
@@ -30,7 +32,7 @@ escaped-letter b = go (eqb b 92) (eqb b 10) (eqb b 9) (eqb b 13)
   where
     go : (t₁ t₂ t₃ t₄ : Bool)
         → pick t₁ (ascii "\\\\") (pick t₂ (ascii "\\n") (pick t₃ (ascii "\\t") (pick t₄ (ascii "\\r") (b ∷ []))))
-        ≡ spelled (pick t₁ 92 (pick t₂ 110 (pick t₃ 116 (pick t₄ 114 0)))) b
+        ≡ spelled (pick t₁ (Some 92) (pick t₂ (Some 110) (pick t₃ (Some 116) (pick t₄ (Some 114) None)))) b
     go true t₂ t₃ t₄ = refl
     go false true t₃ t₄ = refl
     go false false true t₄ = refl
@@ -46,7 +48,7 @@ raw-cons : (first : Bool) (b : ℕ) (bs : List ℕ) → raw_from first (b ∷ bs
 unfolding raw_text escaped_all
 raw-cons true b bs = go (eqb b 32)
   where
-    go : (t : Bool) → pick t (ascii "\\s") (escaped b) ++ escaped_all bs ≡ spelled (pick t 115 (letter b)) b ++ escaped_all bs
+    go : (t : Bool) → pick t (ascii "\\s") (escaped b) ++ escaped_all bs ≡ spelled (pick t (Some 115) (letter b)) b ++ escaped_all bs
     go true = refl
     go false = rw (escaped-letter b)
 raw-cons false b bs = rw (escaped-letter b)
@@ -64,15 +66,15 @@ module _ (s : List ℕ) (i : ℕ) where
   pub raw-end : length s ≤ i → raw_at ≡ []
   raw-end h = rw (done s i h) (raw-done (eqb i 0))
 
-  module _ (h : i < length s) {c : ℕ} (e : c ≡ letter_of (eqb i 0) (get_or s i 0)) where
-    later : raw_from (eqb i 0) (drop i s) ≡ spelled c (get_or s i 0) ++ raw_from (eqb (i + 1) 0) (drop (i + 1) s)
-    later = rw (here s i h, raw-cons (eqb i 0) (get_or s i 0) (drop (i + 1) s), ← e, ne_eqb (i + 1) 0 (λ z. omega arith))
+  module _ (h : i < length s) where
+    later : {o : Option ℕ} → o ≡ letter_of (eqb i 0) (get_or s i 0) → raw_at ≡ spelled o (get_or s i 0) ++ raw_from (eqb (i + 1) 0) (drop (i + 1) s)
+    later e = rw (here s i h, raw-cons (eqb i 0) (get_or s i 0) (drop (i + 1) s), ← e, ne_eqb (i + 1) 0 (λ z. omega arith))
 
-    pub raw-plain : c ≡ 0 → raw_at ≡ get_or s i 0 ∷ raw_from (eqb (i + 1) 0) (drop (i + 1) s)
-    raw-plain z = later ∙ rw (eq-eqb c 0 z)
+    pub raw-plain : None ≡ letter_of (eqb i 0) (get_or s i 0) → raw_at ≡ get_or s i 0 ∷ raw_from (eqb (i + 1) 0) (drop (i + 1) s)
+    raw-plain e = later e
 
-    pub raw-pair : (c ≡ 0 → ⊥) → raw_at ≡ 92 ∷ c ∷ raw_from (eqb (i + 1) 0) (drop (i + 1) s)
-    raw-pair z = later ∙ rw (ne_eqb c 0 z)
+    pub raw-pair : {c : ℕ} → Some c ≡ letter_of (eqb i 0) (get_or s i 0) → raw_at ≡ 92 ∷ c ∷ raw_from (eqb (i + 1) 0) (drop (i + 1) s)
+    raw-pair e = later e
 
 -- ---- what is written and the raw value from the place on are the whole
 
@@ -81,10 +83,10 @@ pub record Spelling (text out₀ out : List ℕ) (i n : ℕ) : Type 0 where
   pub room : length (raw_text text) ≤ length out₀
   pub fill : Fill out₀ (raw_text text) out n (raw_at text i)
 
-module _ {text out₀ out : List ℕ} {i n : ℕ} (r : Spelling text out₀ out i n) (h : i < length text) {c : ℕ} (e : c ≡ letter_of (eqb i 0) (get_or text i 0)) where
-  module _ (z : c ≡ 0) where
+module _ {text out₀ out : List ℕ} {i n : ℕ} (r : Spelling text out₀ out i n) (h : i < length text) where
+  module _ (e : None ≡ letter_of (eqb i 0) (get_or text i 0)) where
     plain-fill : Fill out₀ (raw_text text) out n (get_or text i 0 ∷ raw_at text (i + 1))
-    plain-fill = fill-as r.fill (raw-plain text i h e z)
+    plain-fill = fill-as r.fill (raw-plain text i h e)
 
     pub plain-room : n < length out
     plain-room = let l = fill-length plain-fill in let f = r.fill.long in omega (arith, r.room)
@@ -92,9 +94,9 @@ module _ {text out₀ out : List ℕ} {i n : ℕ} (r : Spelling text out₀ out 
     pub spell-plain : Spelling text out₀ (set out n (get_or text i 0)) (i + 1) (n + 1)
     spell-plain = record { i-le = omega arith; room = r.room; fill = fill-byte plain-fill r.room }
 
-  module _ (z : c ≡ 0 → ⊥) where
+  module _ {c : ℕ} (e : Some c ≡ letter_of (eqb i 0) (get_or text i 0)) where
     pair-fill : Fill out₀ (raw_text text) out n (92 ∷ c ∷ raw_at text (i + 1))
-    pair-fill = fill-as r.fill (raw-pair text i h e z)
+    pair-fill = fill-as r.fill (raw-pair text i h e)
 
     pub pair-room : n + 1 < length out
     pair-room = let l = fill-length pair-fill in let f = r.fill.long in omega (arith, r.room)
@@ -115,12 +117,14 @@ pub record RawMeasured (text : List ℕ) (i n : ℕ) : Type 0 where
   pub n-le : n ≤ 2 * i
   pub goes : n + length (raw_at text i) ≡ length (raw_text text)
 
-module _ {text : List ℕ} {i n : ℕ} (m : RawMeasured text i n) (h : i < length text) {c : ℕ} (e : c ≡ letter_of (eqb i 0) (get_or text i 0)) where
-  pub count-plain : c ≡ 0 → RawMeasured text (i + 1) (n + 1)
-  count-plain z = record { i-le = omega arith; n-le = omega arith; goes = omega (arith, m.goes, ap length (raw-plain text i h e z)) }
+module _ {text : List ℕ} {i n : ℕ} (m : RawMeasured text i n) (h : i < length text) where
+  pub count-plain : (o : Option ℕ) → o ≡ letter_of (eqb i 0) (get_or text i 0) → is_some o ≡ false → RawMeasured text (i + 1) (n + 1)
+  count-plain None e t = record { i-le = omega arith; n-le = omega arith; goes = omega (arith, m.goes, ap length (raw-plain text i h e)) }
+  count-plain (Some c) e t = no (cc)
 
-  pub count-pair : (c ≡ 0 → ⊥) → RawMeasured text (i + 1) (n + 2)
-  count-pair z = record { i-le = omega arith; n-le = omega arith; goes = omega (arith, m.goes, ap length (raw-pair text i h e z)) }
+  pub count-pair : (o : Option ℕ) → o ≡ letter_of (eqb i 0) (get_or text i 0) → is_some o ≡ true → RawMeasured text (i + 1) (n + 2)
+  count-pair None e t = no (cc)
+  count-pair (Some c) e t = record { i-le = omega arith; n-le = omega arith; goes = omega (arith, m.goes, ap length (raw-pair text i h e)) }
 
 pub count-end : {text : List ℕ} {i n : ℕ} → RawMeasured text i n → length text ≤ i → n ≡ length (raw_text text)
 count-end {text} {i} m h = omega (arith, m.goes, ap length (raw-end text i h))

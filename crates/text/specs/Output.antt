@@ -4,13 +4,6 @@ use Rattle.base.specs.Choice.{pick}
 use Rattle.base.specs.Over.{at_front}
 use Rattle.fault.specs.declared.Fault.TheVariants.{NoRoom}
 use Rattle.fault.specs.Answer.{Answer}
-use Rattle.text.specs.declared.Written.{Written}
-use Rattle.text.specs.declared.Written.TheVariants as written
-
--- what the answer says
-abbrev pub answered : Written → Answer ℕ
-answered (written.Bytes n) = Ok n
-answered (written.Refused f) = Err f
 
 -- how many bytes are written, or the refusal; 11 where there is no room
 abbrev pub written_length : Answer (List ℕ) → List ℕ → Answer ℕ

@@ -1,100 +1,76 @@
 // Escapes: text from raw bytes and raw bytes from text.
-ghost use Rattle.std.specs.Prelude.{◌≡◌, true, false, ◌≤◌, ◌<◌, length, drop, get_or, eqb};
+ghost use Rattle.std.specs.Prelude.{◌≡◌, true, false, ◌+◌, ◌^◌, ◌≤◌, ◌<◌, length, drop, get_or, eqb};
 ghost use Rattle.base.specs.Over.{at_front};
 ghost use Rattle.fault.specs.Answer.{accepted, then};
 ghost use Rattle.text.specs.Escape as spec;
-ghost use Rattle.text.specs.Step.{pair_of, decoded_of, measured, text_of, letter_of};
+ghost use Rattle.text.specs.Step.{decoded_of, text_of, letter_of};
 
-use crate::{Decoded, Escapes, Measure};
+use crate::{Decoded, Escapes};
+use fault::Fault;
 
-// The byte that a backslash with this one stands for in text, with the two raw bytes it takes.
-fn text_pair(c: u8) -> Decoded
-    ensures { result ≡ pair_of (spec.text_escape c) }
+// The byte that a backslash with this one stands for in text.
+#[tactic(auto, unfolding(crate::specs::Escape::text_escape))]
+fn text_pair(c: u8) -> Option<u8>
+    ensures { result ≡ spec.text_escape c }
 {
-    if c == b's' {
-        return Decoded::Byte {
-            byte: b' ',
-            width: 2,
-        };
+    match c {
+        b's' => Some(b' '),
+        b'n' => Some(b'\n'),
+        b't' => Some(b'\t'),
+        b'r' => Some(b'\r'),
+        b'\\' => Some(b'\\'),
+        _ => None,
     }
-    if c == b'n' {
-        return Decoded::Byte {
-            byte: b'\n',
-            width: 2,
-        };
-    }
-    if c == b't' {
-        return Decoded::Byte {
-            byte: b'\t',
-            width: 2,
-        };
-    }
-    if c == b'r' {
-        return Decoded::Byte {
-            byte: b'\r',
-            width: 2,
-        };
-    }
-    if c == b'\\' {
-        return Decoded::Byte {
-            byte: b'\\',
-            width: 2,
-        };
-    }
-    Decoded::Wrong
 }
 
 // The same where the escapes of text or of a list are known.
-fn pair(k: Escapes, c: u8) -> Decoded
-    ensures { result ≡ pair_of (spec.escape k c) }
+#[tactic(auto, unfolding(crate::specs::Escape::escape))]
+fn pair(k: Escapes, c: u8) -> Option<u8>
+    ensures { result ≡ spec.escape k c }
 {
-    match k {
-        Escapes::Text => text_pair(c),
-        Escapes::List => {
-            if c == b';' {
-                return Decoded::Byte {
-                    byte: b';',
-                    width: 2,
-                };
-            }
-            text_pair(c)
-        }
+    match (k, c) {
+        (Escapes::List, b';') => Some(b';'),
+        _ => text_pair(c),
     }
 }
 
 // The byte of the text that begins at a place.
-fn decode(raw: &[u8], i: usize, k: Escapes) -> Decoded
+#[tactic(auto, unfolding(crate::specs::Step::decoded_of, crate::specs::Step::decoded_after))]
+fn decode(raw: &[u8], i: usize, k: Escapes) -> Option<Decoded>
     requires { i < length raw.now }
     ensures { result ≡ decoded_of k (drop i raw.now) }
 {
     let b = raw[i];
     if b != b'\\' {
-        return Decoded::Byte { byte: b, width: 1 };
+        return Some(Decoded { byte: b, width: 1 });
     }
-    let j = i + 1;
-    if raw.len() <= j {
-        return Decoded::Wrong;
-    }
-    let c = raw[j];
-    pair(k, c)
+    let c = *raw.get(i + 1)?;
+    let byte = pair(k, c)?;
+    Some(Decoded { byte, width: 2 })
 }
 
-// How long the text of raw bytes is, or where its escape is wrong.
-pub fn text_length(raw: &[u8], k: Escapes) -> Measure
-    ensures { measured result ≡ then length (spec.text_from k raw.now false 0) }
+// How long the text of raw bytes is, or where its escape is wrong; the first byte stands at a place.
+pub(crate) fn length_from(raw: &[u8], k: Escapes, place: usize) -> Result<usize, Fault>
+    requires { place + length raw.now < 2 ^ 64 }
+    ensures { result ≡ then length (spec.text_from k raw.now false place) }
 {
     let mut i: usize = 0;
     let mut n: usize = 0;
     while i < raw.len() {
-        match decode(raw, i, k) {
-            Decoded::Byte { byte: _, width } => {
-                i += width;
-                n += 1;
-            }
-            Decoded::Wrong => return Measure::Wrong(i),
-        }
+        let Some(Decoded { width, .. }) = decode(raw, i, k) else {
+            return Err(Fault::BadEscape { at: place + i });
+        };
+        i += width;
+        n += 1;
     }
-    Measure::Length(n)
+    Ok(n)
+}
+
+// The same where places count from the first byte.
+pub fn text_length(raw: &[u8], k: Escapes) -> Result<usize, Fault>
+    ensures { result ≡ then length (spec.text_from k raw.now false 0) }
+{
+    length_from(raw, k, 0)
 }
 
 // The text of raw bytes at the start of an output that has room for it.
@@ -106,56 +82,50 @@ pub(crate) fn unescape(raw: &[u8], k: Escapes, out: &mut [u8]) -> usize
     let mut i: usize = 0;
     let mut n: usize = 0;
     while i < raw.len() {
-        match decode(raw, i, k) {
-            Decoded::Byte { byte, width } => {
-                out[n] = byte;
-                i += width;
-                n += 1;
-            }
-            Decoded::Wrong => return n,
-        }
+        let Some(Decoded { byte, width }) = decode(raw, i, k) else {
+            return n;
+        };
+        out[n] = byte;
+        i += width;
+        n += 1;
     }
     n
 }
 
-// The letter that stands after a backslash for a byte, or 0 where the byte stands for itself.
-fn letter(b: u8) -> u8
+// The letter that stands after a backslash for a byte, unless the byte stands for itself.
+#[tactic(auto, unfolding(crate::specs::Step::letter))]
+fn letter(b: u8) -> Option<u8>
     ensures { result ≡ letter_of false b }
 {
-    if b == b'\\' {
-        return b'\\';
+    match b {
+        b'\\' => Some(b'\\'),
+        b'\n' => Some(b'n'),
+        b'\t' => Some(b't'),
+        b'\r' => Some(b'r'),
+        _ => None,
     }
-    if b == b'\n' {
-        return b'n';
-    }
-    if b == b'\t' {
-        return b't';
-    }
-    if b == b'\r' {
-        return b'r';
-    }
-    0
 }
 
 // The same of the first byte, where a space has a letter too.
-fn first_letter(b: u8) -> u8
+fn first_letter(b: u8) -> Option<u8>
     ensures { result ≡ letter_of true b }
 {
     if b == b' ' {
-        return b's';
+        return Some(b's');
     }
     letter(b)
 }
 
 // The same of the byte at a place.
-fn letter_at(text: &[u8], i: usize) -> u8
+fn letter_at(text: &[u8], i: usize) -> Option<u8>
     requires { i < length text.now }
     ensures { result ≡ letter_of (eqb i 0) (get_or text.now i 0) }
 {
     if i == 0 {
-        return first_letter(text[i]);
+        first_letter(text[i])
+    } else {
+        letter(text[i])
     }
-    letter(text[i])
 }
 
 // How long the raw value of a text is.
@@ -165,13 +135,8 @@ pub fn raw_length(text: &[u8]) -> usize
     let mut i: usize = 0;
     let mut n: usize = 0;
     while i < text.len() {
-        if letter_at(text, i) == 0 {
-            n += 1;
-            i += 1;
-        } else {
-            n += 2;
-            i += 1;
-        }
+        n += if letter_at(text, i).is_some() { 2 } else { 1 };
+        i += 1;
     }
     n
 }
@@ -184,18 +149,18 @@ pub fn write_raw(text: &[u8], out: &mut [u8]) -> usize
     let mut i: usize = 0;
     let mut n: usize = 0;
     while i < text.len() {
-        let b = text[i];
-        let c = letter_at(text, i);
-        if c == 0 {
-            out[n] = b;
-            n += 1;
-            i += 1;
-        } else {
-            out[n] = b'\\';
-            out[n + 1] = c;
-            n += 2;
-            i += 1;
+        match letter_at(text, i) {
+            None => {
+                out[n] = text[i];
+                n += 1;
+            }
+            Some(c) => {
+                out[n] = b'\\';
+                out[n + 1] = c;
+                n += 2;
+            }
         }
+        i += 1;
     }
     n
 }

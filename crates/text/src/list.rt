@@ -7,35 +7,33 @@ ghost use Rattle.text.specs.Escape.{text_from};
 ghost use Rattle.text.specs.Element.{elements_of};
 ghost use Rattle.text.specs.Step as spec;
 
-use crate::{Escapes, Left, Measure, Room, escape};
+use crate::{Escapes, escape};
+use fault::Fault;
 
 // The room left after a record whose body has n bytes.
-fn spend_record(left: Left, n: usize) -> Left
+#[tactic(auto, unfolding(crate::specs::Step::spend_record))]
+fn spend_record(left: Option<usize>, n: usize) -> Option<usize>
     ensures { result ≡ spec.spend_record left n }
 {
     if 0xfffffff9 < n {
-        return Left::Short;
+        return None;
     }
     crate::spend(left, 6 + n)
 }
 
 // The room that the elements' records leave, or where an escape is wrong.
-pub fn room_after(raw: &[u8], room: usize) -> Room
-    ensures { spec.room_of result ≡ then (spec.spend_all (Left.Bytes room)) (elements_of raw.now) }
+pub fn room_after(raw: &[u8], room: usize) -> Result<Option<usize>, Fault>
+    ensures { result ≡ then (spec.spend_all (Some room)) (elements_of raw.now) }
 {
-    let mut left = Left::Bytes(room);
+    let mut left = Some(room);
     let mut i: usize = 0;
     while i < raw.len() {
         let e = characters::classes::bare_end(raw, i, b';');
-        match escape::text_length(&raw[i..e], Escapes::List) {
-            Measure::Wrong(at) => return Room::Wrong(i + at),
-            Measure::Length(n) => {
-                left = spend_record(left, n);
-                i = e + 1;
-            }
-        }
+        let n = escape::length_from(&raw[i..e], Escapes::List, i)?;
+        left = spend_record(left, n);
+        i = e + 1;
     }
-    Room::Left(left)
+    Ok(left)
 }
 
 // The record of a raw value's text through the part of the output that starts at a place; the answer is where it ends.

@@ -1,11 +1,11 @@
 -- `actions` meets its contract: the calls that led to each return say which answer the definition has. Assumes nothing.
-use Rattle.std.specs.Prelude.{Ok}
+use Rattle.std.specs.Prelude.{Some, Ok}
+use Rattle.std.proofs.lemmas.Result.{err_from_is_err_and}
 use mathlib.Core.Path.{◌≡◌, sym, ap, ◌∙◌}
 use mathlib.Core.Bool.{true}
 use Rattle.fault.proofs.Answers.{then-given, then-refused}
 use Rattle.text.specs.Element.{elements_of}
-use Rattle.text.specs.Step.{room_of, spend_all}
-use Rattle.text.specs.declared.Left.TheVariants.{Bytes}
+use Rattle.text.specs.Step.{spend_all}
 use Rattle.text.proofs.OutputLaws.{leaves-refused}
 use Rattle.line.specs.Form.{locale_form}
 use Rattle.rows.specs.Title.{desktop_entry}
@@ -32,18 +32,19 @@ pub write_all-requires : goal.write_all-requires
 write_all-requires c =
     ((check-good desktop_entry c.args.file.now (checks (goal.at.write_all-requires c).In-Sound)).0, form (goal.at.write_all-requires c).Then-is_locale)
 
-pub returns-in-Wrong : goal.returns-in-Wrong
-returns-in-Wrong c =
+pub returns-in_err-room_after-in-Sound : goal.returns-in_err-room_after-in-Sound
+returns-in_err-room_after-in-Sound c =
     let a = c.args in
-    leaves-refused (spec.actions a.file.now a.locale.now) _ a.out.now
-    (list-wrong a.file.now a.locale.now (checks (goal.at.returns-in-Wrong c).In-Sound) (form (goal.at.returns-in-Wrong c).Then-is_locale) c.value-raw.ensures
-    (then-refused (spend_all (Bytes 0)) (elements_of c.value-raw.result.now) (sym (ap room_of c.in-Wrong.is) ∙ c.room_after.ensures)))
+    let p = err_from_is_err_and c.from_residual.result c.from_residual.ensures.1 in
+    rw (p.1, p.2) (leaves-refused (spec.actions a.file.now a.locale.now) _ a.out.now
+    (list-wrong a.file.now a.locale.now (checks (goal.at.returns-in_err-room_after-in-Sound c).In-Sound) (form (goal.at.returns-in_err-room_after-in-Sound c).Then-is_locale) c.value-raw.ensures
+    (then-refused (spend_all (Some 0)) (elements_of c.value-raw.result.now) (sym c.in_err-room_after-in-Sound.was ∙ c.room_after.ensures))))
 
-pub returns-in-Left : goal.returns-in-Left
-returns-in-Left c =
+pub returns-then-is_locale : goal.returns-then-is_locale
+returns-then-is_locale c =
     let a = c.args in
-    let ids = then-given (spend_all (Bytes 0)) (elements_of c.value-raw.result.now) (sym (ap room_of c.in-Left.is) ∙ c.room_after.ensures) in
-    rw (list_read a.file.now a.locale.now (checks (goal.at.returns-in-Left c).In-Sound) (form (goal.at.returns-in-Left c).Then-is_locale) c.value-raw.ensures ids.1) c.write_all.ensures
+    let ids = then-given (spend_all (Some 0)) (elements_of c.value-raw.result.now) (sym c.in_ok-room_after-in-Sound.was ∙ c.room_after.ensures) in
+    rw (list_read a.file.now a.locale.now (checks (goal.at.returns-then-is_locale c).In-Sound) (form (goal.at.returns-then-is_locale c).Then-is_locale) c.value-raw.ensures ids.1) c.write_all.ensures
 
 pub returns-in-Refused : goal.returns-in-Refused
 returns-in-Refused c =

@@ -1,11 +1,12 @@
 -- `expand_action` meets its contract: the calls that led to each return say which answer the definition has. Assumes nothing.
+use Rattle.std.specs.Prelude.{Some}
 use mathlib.Core.Path.{sym, ap, ◌∙◌}
+use Rattle.std.proofs.lemmas.Result.{err_from_is_err_and}
 use mathlib.Core.Bool.{◌&&◌}
 use Rattle.base.specs.Lists.{same, any}
 use Rattle.fault.proofs.Answers.{then-given, then-refused}
 use Rattle.text.specs.Element.{elements_of}
-use Rattle.text.specs.Step.{room_of, spend_all}
-use Rattle.text.specs.declared.Left.TheVariants.{Bytes}
+use Rattle.text.specs.Step.{spend_all}
 use Rattle.text.proofs.OutputLaws.{leaves-refused}
 use Rattle.rows.specs.Rows.{read_rows}
 use Rattle.rows.specs.Title.{desktop_entry}
@@ -41,7 +42,7 @@ expand_group-requires c =
 pub returns-then-group-eq0 : goal.returns-then-group-eq0
 returns-then-group-eq0 c =
     let a = c.args in
-    let ids = then-given (spend_all (Bytes 0)) (elements_of c.value-raw.result.now) (sym (ap room_of c.in-Left.is) ∙ c.room_after.ensures) in
+    let ids = then-given (spend_all (Some 0)) (elements_of c.value-raw.result.now) (sym c.in_ok-room_after-in-Items.was ∙ c.room_after.ensures) in
     let n = group-none (any (same a.action.now) (elements c.value-raw.result.now) && spec.is_action (read_rows a.file.now) a.action.now) a.action.now c.group_asked-group.ensures c.if-group-eq0.true in
     leaves-refused (spec.expand_action a.file.now a.action.now a.locale.now a.location.now a.list.now a.run) _ a.out.now
     (action-other a.file.now a.action.now a.locale.now a.location.now a.list.now a.run (granted (goal.at.returns-then-group-eq0 c).In-Items) c.value-raw.ensures ids.1 n)
@@ -52,16 +53,17 @@ returns-in-Refused c =
     leaves-refused (spec.expand_action a.file.now a.action.now a.locale.now a.location.now a.list.now a.run) _ a.out.now
     (action-unasked a.file.now a.action.now a.locale.now a.location.now a.list.now a.run (sym (ap asked_as c.in-Refused.is) ∙ c.ask.ensures))
 
-pub returns-in-Wrong : goal.returns-in-Wrong
-returns-in-Wrong c =
+pub returns-in_err-room_after-in-Items : goal.returns-in_err-room_after-in-Items
+returns-in_err-room_after-in-Items c =
     let a = c.args in
-    leaves-refused (spec.expand_action a.file.now a.action.now a.locale.now a.location.now a.list.now a.run) _ a.out.now
-    (action-wrong a.file.now a.action.now a.locale.now a.location.now a.list.now a.run (granted (goal.at.returns-in-Wrong c).In-Items) c.value-raw.ensures
-    (then-refused (spend_all (Bytes 0)) (elements_of c.value-raw.result.now) (sym (ap room_of c.in-Wrong.is) ∙ c.room_after.ensures)))
+    let p = err_from_is_err_and c.from_residual.result c.from_residual.ensures.1 in
+    rw (p.1, p.2) (leaves-refused (spec.expand_action a.file.now a.action.now a.locale.now a.location.now a.list.now a.run) _ a.out.now
+    (action-wrong a.file.now a.action.now a.locale.now a.location.now a.list.now a.run (granted (goal.at.returns-in_err-room_after-in-Items c).In-Items) c.value-raw.ensures
+    (then-refused (spend_all (Some 0)) (elements_of c.value-raw.result.now) (sym c.in_err-room_after-in-Items.was ∙ c.room_after.ensures))))
 
 pub returns-else-group-eq0 : goal.returns-else-group-eq0
 returns-else-group-eq0 c =
     let a = c.args in
-    let ids = then-given (spend_all (Bytes 0)) (elements_of c.value-raw.result.now) (sym (ap room_of c.in-Left.is) ∙ c.room_after.ensures) in
+    let ids = then-given (spend_all (Some 0)) (elements_of c.value-raw.result.now) (sym c.in_ok-room_after-in-Items.was ∙ c.room_after.ensures) in
     let y = group-some (any (same a.action.now) (elements c.value-raw.result.now) && spec.is_action (read_rows a.file.now) a.action.now) a.action.now c.group_asked-group.ensures c.if-group-eq0.false in
     rw (action-listed a.file.now a.action.now a.locale.now a.location.now a.list.now a.run (granted (goal.at.returns-else-group-eq0 c).In-Items) c.value-raw.ensures ids.1 y.0, ← y.1) c.expand_group.ensures

@@ -11,16 +11,16 @@ use Rattle.run.proofs.write_run.Goals as goal
 
 pub put_run-requires : goal.put_run-requires
 put_run-requires c =
-    (c.requires.0, c.requires.1, spend-was (sym c.in-Bytes.is ∙ c.run_left.ensures))
+    (c.requires.0, c.requires.1, spend-was (sym c.in-Some.is ∙ c.run_left.ensures))
 
-pub returns-in-Short : goal.returns-in-Short
-returns-in-Short c =
+pub returns-in-None : goal.returns-in-None
+returns-in-None c =
     let a = c.args in
     let x = records_of (run_of (put_of a.item.now a.name.now a.location.now) (items_in a.list.now) a.icon.now) (arguments_in a.exec.now) in
-    leaves-full (Ok x) a.out.now refl (spend-lacks (sym c.in-Short.is ∙ c.run_left.ensures))
+    leaves-full (Ok x) a.out.now refl (spend-lacks (sym c.in-None.is ∙ c.run_left.ensures))
 
-pub returns-in-Bytes : goal.returns-in-Bytes
-returns-in-Bytes c =
+pub returns-in-Some : goal.returns-in-Some
+returns-in-Some c =
     let a = c.args in
     let x = records_of (run_of (put_of a.item.now a.name.now a.location.now) (items_in a.list.now) a.icon.now) (arguments_in a.exec.now) in
-    leaves-written (Ok x) a.out.now refl (spend-was (sym c.in-Bytes.is ∙ c.run_left.ensures)) c.put_run.ensures
+    leaves-written (Ok x) a.out.now refl (spend-was (sym c.in-Some.is ∙ c.run_left.ensures)) c.put_run.ensures

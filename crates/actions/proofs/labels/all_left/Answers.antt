@@ -1,7 +1,7 @@
 -- `labels::all_left` meets its contract: the room left and what those from `i` on take are the whole answer. Assumes nothing.
 use native.Mathlib.Omega.{arith}
-use mathlib.Core.Path.{sym, ap, ◌∙◌}
-use Rattle.text.specs.Step.{room_of}
+use mathlib.Core.Path.{sym, ◌∙◌}
+use Rattle.std.proofs.lemmas.Result.{err_from_is_err_and}
 use Rattle.text.proofs.Elements.{element-end}
 use Rattle.rows.specs.Rows.{read_rows}
 use Rattle.actions.proofs.Labelling.{room-start, room-end, room-wrong, room_next}
@@ -16,9 +16,10 @@ action_left-requires c =
     let b = element-end c.args.raw.now c.loop-i.i (search rules) c.bare_end-e.ensures in
     (c.requires.0, c.requires.1, b.0, b.1)
 
-pub returns-in-Wrong : goal.returns-in-Wrong
-returns-in-Wrong c =
-    room-wrong _ _ _ c.loop-i.invariant (search rules) c.bare_end-e.ensures (sym (ap room_of c.in-Wrong.is) ∙ c.action_left.ensures)
+pub returns-in_err-left : goal.returns-in_err-left
+returns-in_err-left c =
+    let p = err_from_is_err_and c.from_residual.result c.from_residual.ensures.1 in
+    rw (p.1, p.2) (room-wrong _ _ _ c.loop-i.invariant (search rules) c.bare_end-e.ensures (sym c.in_err-left.was ∙ c.action_left.ensures))
 
 pub overflow_add-i : goal.overflow_add-i
 overflow_add-i c =
@@ -30,7 +31,7 @@ loop-i-smaller c =
 
 pub loop-i-preserved : goal.loop-i-preserved
 loop-i-preserved c =
-    room_next _ _ _ c.loop-i.invariant (search rules) c.bare_end-e.ensures (sym (ap room_of c.in-Left.is) ∙ c.action_left.ensures)
+    room_next _ _ _ c.loop-i.invariant (search rules) c.bare_end-e.ensures (sym c.in_ok-left.was ∙ c.action_left.ensures)
 
 pub returns : goal.returns
 returns c = room-end _ _ _ c.loop-i.invariant c.loop-i-test.false

@@ -2,8 +2,7 @@
 use Rattle.std.specs.Prelude.{Ok}
 use mathlib.Core.Path.{sym, ap, ◌∙◌}
 use mathlib.Core.List.{[]}
-use Rattle.text.specs.Step.{room_of}
-use Rattle.text.specs.declared.Left.{Left}
+use Rattle.std.proofs.lemmas.Result.{err_from_is_err_and}
 use Rattle.rows.specs.Rows.{read_rows}
 use Rattle.actions.specs.Actions.{listed_from, labelled}
 use Rattle.actions.specs.Step.{elements}
@@ -15,25 +14,26 @@ put_all-requires c =
     let a = c.args in
     let rs = read_rows a.file.now in
     let f = records-fit (labelled rs a.locale.now (listed_from rs [] (elements a.raw.now))) a.out.now
-    (ap (λ (l : Left). Ok l) (sym c.in-Bytes.is) ∙ sym (ap room_of c.in-Left.is) ∙ c.all_left.ensures) in
+    (ap Ok (sym c.in-Some.is) ∙ sym c.in_ok-all_left.was ∙ c.all_left.ensures) in
     (c.requires.0, c.requires.1, f.0, f.1)
 
-pub returns-in-Wrong : goal.returns-in-Wrong
-returns-in-Wrong c =
+pub returns-in_err-all_left : goal.returns-in_err-all_left
+returns-in_err-all_left c =
     let a = c.args in
     let rs = read_rows a.file.now in
-    records-wrong (labelled rs a.locale.now (listed_from rs [] (elements a.raw.now))) a.out.now (sym (ap room_of c.in-Wrong.is) ∙ c.all_left.ensures)
+    let p = err_from_is_err_and c.from_residual.result c.from_residual.ensures.1 in
+    rw (p.1, p.2) (records-wrong (labelled rs a.locale.now (listed_from rs [] (elements a.raw.now))) a.out.now (sym c.in_err-all_left.was ∙ c.all_left.ensures))
 
-pub returns-in-Short : goal.returns-in-Short
-returns-in-Short c =
+pub returns-in-None : goal.returns-in-None
+returns-in-None c =
     let a = c.args in
     let rs = read_rows a.file.now in
     records-short (labelled rs a.locale.now (listed_from rs [] (elements a.raw.now))) a.out.now
-    (ap (λ (l : Left). Ok l) (sym c.in-Short.is) ∙ sym (ap room_of c.in-Left.is) ∙ c.all_left.ensures)
+    (ap Ok (sym c.in-None.is) ∙ sym c.in_ok-all_left.was ∙ c.all_left.ensures)
 
-pub returns-in-Bytes : goal.returns-in-Bytes
-returns-in-Bytes c =
+pub returns-in-Some : goal.returns-in-Some
+returns-in-Some c =
     let a = c.args in
     let rs = read_rows a.file.now in
     records-put (labelled rs a.locale.now (listed_from rs [] (elements a.raw.now))) a.out.now
-    (ap (λ (l : Left). Ok l) (sym c.in-Bytes.is) ∙ sym (ap room_of c.in-Left.is) ∙ c.all_left.ensures) c.put_all.ensures
+    (ap Ok (sym c.in-Some.is) ∙ sym c.in_ok-all_left.was ∙ c.all_left.ensures) c.put_all.ensures

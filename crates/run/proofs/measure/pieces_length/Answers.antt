@@ -9,7 +9,7 @@ pub returns-in_default : goal.returns-in_default
 returns-in_default c = let h = spend-lacks (sym c.in_default.is ∙ c.pieces_left.ensures) in omega arith
 
 pub overflow_sub-result : goal.overflow_sub-result
-overflow_sub-result c = (spend-told (search rules) (sym c.in-Bytes.is ∙ c.pieces_left.ensures)).0
+overflow_sub-result c = (spend-told (search rules) (sym c.in-Some.is ∙ c.pieces_left.ensures)).0
 
 pub returns : goal.returns
-returns c = (spend-told (search rules) (sym c.in-Bytes.is ∙ c.pieces_left.ensures)).1
+returns c = (spend-told (search rules) (sym c.in-Some.is ∙ c.pieces_left.ensures)).1

@@ -17,36 +17,36 @@ loop-i-init c =
 pub bounds-out-n : goal.bounds-out-n
 bounds-out-n c =
     let m = c in
-    reading-room m.loop-i.invariant (search rules) (sym c.in-Byte.is ∙ m.decode.ensures)
+    reading-room m.loop-i.invariant (search rules) (sym c.in-Some.is ∙ m.decode.ensures)
 
 pub overflow_add-i : goal.overflow_add-i
 overflow_add-i c =
     let m = c in
     let l = m in
     let a = l.args in
-    omega (arith, byte-within a.k a.raw.now l.loop-i.i (search rules) (sym c.in-Byte.is ∙ m.decode.ensures))
+    omega (arith, byte-within a.k a.raw.now 0 l.loop-i.i (search rules) (sym c.in-Some.is ∙ m.decode.ensures))
 
 pub overflow_add-n : goal.overflow_add-n
 overflow_add-n c =
     let m = c in
-    omega (arith, reading-room m.loop-i.invariant (search rules) (sym c.in-Byte.is ∙ m.decode.ensures))
+    omega (arith, reading-room m.loop-i.invariant (search rules) (sym c.in-Some.is ∙ m.decode.ensures))
 
 pub loop-i-smaller : goal.loop-i-smaller
 loop-i-smaller c =
     let m = c in
     let l = m in
     let a = l.args in
-    omega (arith, byte-within a.k a.raw.now l.loop-i.i (search rules) (sym c.in-Byte.is ∙ m.decode.ensures))
+    omega (arith, byte-within a.k a.raw.now 0 l.loop-i.i (search rules) (sym c.in-Some.is ∙ m.decode.ensures))
 
 pub loop-i-preserved : goal.loop-i-preserved
 loop-i-preserved c =
     let m = c in
-    reading-byte m.loop-i.invariant (search rules) (sym c.in-Byte.is ∙ m.decode.ensures)
+    reading-byte m.loop-i.invariant (search rules) (sym c.in-Some.is ∙ m.decode.ensures)
 
-pub returns-in-Wrong : goal.returns-in-Wrong
-returns-in-Wrong c =
+pub returns-in_default : goal.returns-in_default
+returns-in_default c =
     let m = c in
-    reading-wrong m.loop-i.invariant (search rules) (sym c.in-Wrong.is ∙ m.decode.ensures)
+    reading-wrong m.loop-i.invariant (search rules) (sym c.in_default.is ∙ m.decode.ensures)
 
 pub returns : goal.returns
 returns c = reading-end c.loop-i.invariant (search rules)
