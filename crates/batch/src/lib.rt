@@ -13,7 +13,7 @@ ghost use Rattle.batch.specs.Step.{MadeOf};
 use change::Operation;
 use edit::Edited;
 use fault::Fault;
-use record::Front;
+use record::{Front, HEAD};
 use requests::Fields;
 use wellformed::Checked;
 
@@ -104,7 +104,7 @@ fn run(
     let mut u = used;
     let mut n = standing;
     while at < list.len() {
-        let Front::Record { kind, end } = record::read(list, at) else {
+        let Some(Front { kind, end }) = record::read(list, at) else {
             return Batched::Stopped {
                 fault: Fault::Damaged,
                 done,
@@ -113,7 +113,7 @@ fn run(
                 standing: n,
             };
         };
-        let from = at + 6;
+        let from = at + HEAD;
         match make(file, length, journal, n, person, kind, &list[from..end]) {
             Edited::Refused(fault) => {
                 return Batched::Stopped {

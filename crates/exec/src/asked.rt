@@ -7,7 +7,7 @@ ghost use Rattle.record.specs.Record.{read_list};
 ghost use Rattle.exec.specs.Expand as spec;
 ghost use Rattle.run.specs.Step.{items_in};
 
-use record::Front;
+use record::{Front, HEAD};
 
 // Whether no byte is zero.
 fn no_zero(s: &[u8]) -> bool
@@ -50,10 +50,10 @@ pub fn are_fit(list: &[u8]) -> bool
 {
     let mut from: usize = 0;
     while from < list.len() {
-        let Front::Record { kind: _, end } = record::read(list, from) else {
+        let Some(Front { end, .. }) = record::read(list, from) else {
             return false;
         };
-        let body = from + 6;
+        let body = from + HEAD;
         if is_fit_item(&list[body..end]) {
             from = end;
         } else {

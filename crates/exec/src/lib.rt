@@ -22,7 +22,7 @@ ghost use Rattle.exec.specs.Step.{asked_as};
 
 use command::{Checked, Seen};
 use fault::Fault;
-use record::{Bounds, Filled};
+use record::Bounds;
 use rows::Found;
 use wellformed::Checked as FileChecked;
 
@@ -40,7 +40,7 @@ pub fn ask(file: &[u8], locale: &[u8], location: &[u8], list: &[u8]) -> Counted
     match wellformed::check(file) {
         FileChecked::Refused(f) => Counted::Refused(f),
         FileChecked::Sound => {
-            let Filled::Records(n) = record::count(list, 2, base::LIST_MOST) else {
+            let Some(n) = record::count(list, 2, base::LIST_MOST) else {
                 return Counted::Refused(Fault::Damaged);
             };
             if line::form::is_locale(locale) {
@@ -75,7 +75,7 @@ fn item_at(list: &[u8], n: usize) -> &[u8]
     requires { there (read_list 2 list_most list.now) ≡ true }
     ensures { result.now ≡ get_or (items_in list.now) n [] }
 {
-    let Bounds::Body { from, to } = record::nth(list, n) else {
+    let Some(Bounds { from, to }) = record::nth(list, n) else {
         return &list[..0];
     };
     &list[from..to]

@@ -1,5 +1,5 @@
 -- Where the records of a journal's oldest edits end, and the call that forgets them. Assumes nothing.
-use Rattle.std.specs.Prelude.{Some, Ok, Err}
+use Rattle.std.specs.Prelude.{Some, None, Ok, Err}
 use mathlib.Core.Path.{◌≡◌, sym, ap, ◌∙◌}
 use mathlib.Core.Bool.{true, false}
 use mathlib.Core.List.{List, [], ◌∷◌, reverse_aux}
@@ -13,9 +13,10 @@ use Rattle.fault.specs.declared.Fault.{Fault}
 use Rattle.fault.specs.declared.Fault.TheVariants.{Damaged, NothingLeft}
 use Rattle.fault.specs.Answer.{Answer, accepted}
 use Rattle.fault.proofs.Answers.{given_is, accepted-given}
-use Rattle.record.specs.declared.Bounds.TheVariants as bounds
+use Rattle.record.specs.declared.Bounds as found
 use Rattle.record.specs.Record.{Rec, record_length, read_each}
 use Rattle.record.specs.Walk.{bounds_from, nth_of}
+use Rattle.record.proofs.Seek.{first-bounds}
 use Rattle.splice.specs.Edit.{Edit, replaced, buffer_with}
 use Rattle.journal.specs.Journal.{read_edit, Authored, lengths, Journal, oldest, in_order, read_journal}
 use Rattle.journal.specs.Lent.{Lent, lent, used_of, opened, without, forget, left_in, Forgets}
@@ -32,20 +33,20 @@ use Rattle.journal.proofs.Forgotten.{forget-shut, forget-is, forget-lacks}
 
 -- ---- where the first records end
 
-end-from : (rs : List Rec) (es : List (Authored Edit)) (n at : ℕ) {from to : ℕ} → read_each read_edit rs ≡ Some es → bounds_from rs n at ≡ bounds.Body from to
-    → (to ≡ at + lengths (take (suc n) es)) × (n < length es)
+end-from : (rs : List Rec) (es : List (Authored Edit)) (n at : ℕ) {b : found.Bounds} → read_each read_edit rs ≡ Some es → bounds_from rs n at ≡ Some b
+    → (b.to ≡ at + lengths (take (suc n) es)) × (n < length es)
 unfolding bounds_from
 end-from [] es n at r h = no (cc)
-end-from (q ∷ qs) es zero at {from} {to} r h =
+end-from (q ∷ qs) es zero at r h =
     let k = cons q qs es r in
-    let l : at + record_length q.body ≡ to = cc in
+    let l = (first-bounds q qs at h).1 in
     rw k.is (omega (arith, l, read_length q k.reads), omega arith)
 end-from (q ∷ qs) es (suc n) at r h =
     let k = cons q qs es r in
     let i = end-from qs k.others n (at + record_length q.body) k.reads-others h in
     rw k.is (omega (arith, i.0, read_length q k.reads), omega (arith, i.1))
 
-fewer-from : (rs : List Rec) (es : List (Authored Edit)) (n at : ℕ) → read_each read_edit rs ≡ Some es → bounds_from rs n at ≡ bounds.Missing → length es ≤ n
+fewer-from : (rs : List Rec) (es : List (Authored Edit)) (n at : ℕ) → read_each read_edit rs ≡ Some es → bounds_from rs n at ≡ None → length es ≤ n
 unfolding bounds_from
 fewer-from [] es n at r h = rw (none_read r) (omega arith)
 fewer-from (q ∷ qs) es zero at r h = no (cc)
@@ -81,15 +82,15 @@ first-wait k es (w ∷ ws) h l =
 
 module _ (s : List ℕ) (standing k : ℕ) (j : Journal) (h : read_journal s standing ≡ Some j) where
   -- no record k: fewer stand
-  pub oldest-missing : 0 < k → nth_of s (k - 1) ≡ bounds.Missing → length j.stand < k
+  pub oldest-missing : 0 < k → nth_of s (k - 1) ≡ None → length j.stand < k
   unfolding nth_of
   oldest-missing p e =
       let w = journal-says s standing j h in
       let o = of s (in_order j) w.edits_are in
       omega (arith, fewer-from o.records (in_order j) (k - 1) 0 o.reads (rw o.cuts at e), length-order j.stand j.wait)
 
-  module _ {from to : ℕ} (p : 0 < k) (e : nth_of s (k - 1) ≡ bounds.Body from to) where
-    ends : (to ≡ lengths (take k (in_order j))) × (k ≤ length j.stand + length j.wait)
+  module _ {b : found.Bounds} (p : 0 < k) (e : nth_of s (k - 1) ≡ Some b) where
+    ends : (b.to ≡ lengths (take k (in_order j))) × (k ≤ length j.stand + length j.wait)
     unfolding nth_of
     ends =
         let w = journal-says s standing j h in
@@ -99,14 +100,14 @@ module _ (s : List ℕ) (standing k : ℕ) (j : Journal) (h : read_journal s sta
         (omega (arith, i.0, ap (λ (n : ℕ). lengths (take n (in_order j))) z), omega (arith, i.1, length-order j.stand j.wait))
 
     -- record k ends behind those that stand: fewer do
-    pub oldest-beyond : standing < to → length j.stand < k
+    pub oldest-beyond : standing < b.to → length j.stand < k
     oldest-beyond l =
         by-test (leb k (length j.stand))
         (λ t. absurd (omega (arith, ends.0, first-stand k j.stand j.wait (leb-true k (length j.stand) t), lengths-parted (length j.stand - k) j.stand, (journal-says s standing j h).standing)))
         (λ t. leb-false k (length j.stand) t)
 
     -- it ends among them
-    pub oldest-ends : to ≤ standing → (k ≤ length j.stand) × (to ≡ lengths (oldest k j.stand))
+    pub oldest-ends : b.to ≤ standing → (k ≤ length j.stand) × (b.to ≡ lengths (oldest k j.stand))
     oldest-ends l =
         by-test (leb k (length j.stand))
         (λ t. let i = leb-true k (length j.stand) t in (i, ends.0 ∙ first-stand k j.stand j.wait i))

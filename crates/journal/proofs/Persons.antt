@@ -15,12 +15,13 @@ use Rattle.base.proofs.Tests.{no, by-test, mapped}
 use Rattle.fault.specs.declared.Fault.TheVariants.{Damaged, NothingLeft}
 use Rattle.fault.specs.Answer.{Answer, accepted}
 use Rattle.fault.proofs.Answers.{accepted-given}
-use Rattle.record.specs.declared.Bounds.TheVariants as bounds
+use Rattle.record.specs.declared.Bounds.{Bounds}
 use Rattle.record.specs.Number.{number_in}
 use Rattle.record.specs.Record.{Rec, record_length, cut, read_each}
 use Rattle.record.specs.Walk.{bounds_from, nth_of, read_at}
 use Rattle.record.proofs.Place.{Stands}
 use Rattle.record.proofs.Cut.{cut-some, cut-some-at}
+use Rattle.record.proofs.Seek.{first-bounds}
 use Rattle.splice.specs.Edit.{Edit}
 use Rattle.journal.specs.Journal.{read_edit, NoPerson, Person, Authored, by, person_of, edit_in, in_order}
 use Rattle.journal.specs.Lent.{Lent, used_of, opened, person_in, person}
@@ -42,20 +43,20 @@ pub record Found (s : List ℕ) (es : List (Authored Edit)) (n from : ℕ) : Typ
   pub holds : edit_at s at ≡ Some edit
   pub is : slice_get es n ≡ Some edit
 
-found_from : (s : List ℕ) (at : ℕ) (rs : List Rec) (es : List (Authored Edit)) (n : ℕ) {from to : ℕ} → cut (drop at s) ≡ Some rs → read_each read_edit rs ≡ Some es
-    → bounds_from rs n at ≡ bounds.Body from to → Found s es n from
+found_from : (s : List ℕ) (at : ℕ) (rs : List Rec) (es : List (Authored Edit)) (n : ℕ) {b : Bounds} → cut (drop at s) ≡ Some rs → read_each read_edit rs ≡ Some es
+    → bounds_from rs n at ≡ Some b → Found s es n b.from
 unfolding bounds_from read_at
 found_from s at [] es n c r h = no (cc)
 found_from s at (q ∷ qs) es zero c r h =
     let w = cut-some (drop at s) c in
     let k = cons q qs es r in
-    record { at = at; kind = q.kind; end = at + record_length q.body; edit = k.edit; begins = cc; stands = (cut-some-at s at c).stands; holds = rw (w.0, w.1) k.reads; is = ap (λ (x : List (Authored Edit)). slice_get x 0) k.is }
+    record { at = at; kind = q.kind; end = at + record_length q.body; edit = k.edit; begins = (first-bounds q qs at h).0; stands = (cut-some-at s at c).stands; holds = rw (w.0, w.1) k.reads; is = ap (λ (x : List (Authored Edit)). slice_get x 0) k.is }
 found_from s at (q ∷ qs) es (suc n) c r h =
     let k = cons q qs es r in
     let f = found_from s (at + record_length q.body) qs k.others n (cut-some-at s at c).others k.reads-others h in
     record { at = f.at; kind = f.kind; end = f.end; edit = f.edit; begins = f.begins; stands = f.stands; holds = f.holds; is = ap (λ (x : List (Authored Edit)). slice_get x (suc n)) k.is ∙ f.is }
 
-missing-from : (rs : List Rec) (es : List (Authored Edit)) (n at : ℕ) → read_each read_edit rs ≡ Some es → bounds_from rs n at ≡ bounds.Missing → slice_get es n ≡ None
+missing-from : (rs : List Rec) (es : List (Authored Edit)) (n at : ℕ) → read_each read_edit rs ≡ Some es → bounds_from rs n at ≡ None → slice_get es n ≡ None
 unfolding bounds_from
 missing-from [] es n at r h = rw (none_read r)
 missing-from (q ∷ qs) es zero at r h = no (cc)
@@ -64,13 +65,13 @@ missing-from (q ∷ qs) es (suc n) at r h =
     rw k.is (missing-from qs k.others n (at + record_length q.body) k.reads-others h)
 
 module _ (s : List ℕ) (n : ℕ) (es : List (Authored Edit)) (e : edits s ≡ Some es) where
-  pub person-found : {from to : ℕ} → nth_of s n ≡ bounds.Body from to → Found s es n from
+  pub person-found : {b : Bounds} → nth_of s n ≡ Some b → Found s es n b.from
   unfolding nth_of
   person-found h =
       let o = of s es e in
       found_from s 0 o.records es n o.cuts o.reads (rw o.cuts at h)
 
-  pub person-missing : nth_of s n ≡ bounds.Missing → Err NothingLeft ≡ person_in es n
+  pub person-missing : nth_of s n ≡ None → Err NothingLeft ≡ person_in es n
   unfolding nth_of
   person-missing h =
       let o = of s es e in

@@ -13,7 +13,7 @@ ghost use Rattle.journal.specs.Lent as lent;
 ghost use Rattle.journal.specs.Walk.{placed, latest, waiting, next_on, Within, edit_front, ReadsBytes, Reads, edits, Walks, TellsPerson, EndsOldest};
 
 use fault::Fault;
-use record::{Bounds, Front};
+use record::{Bounds, Front, HEAD};
 
 // Which way through the journal: back by the latest edit that stands, or forth by the next that waits.
 #[derive(Clone, Copy)]
@@ -73,12 +73,12 @@ fn read_parts(used: &[u8], start: usize, from: usize, end: usize) -> Next
     if size < 12 {
         return Next::Damaged;
     }
-    let old = record::number4(used, from + 4);
-    let new = record::number4(used, from + 8);
+    let old = record::number::<4>(used, from + 4);
+    let new = record::number::<4>(used, from + 8);
     if size != 12 + old + new {
         return Next::Damaged;
     }
-    let place = record::number4(used, from);
+    let place = record::number::<4>(used, from);
     Next::Edit {
         start,
         place,
@@ -95,11 +95,11 @@ fn read_edit(used: &[u8], at: usize) -> Next
     if used.len() <= at {
         return Next::Nothing;
     }
-    let Front::Record { kind, end } = record::read(used, at) else {
+    let Some(Front { kind, end }) = record::read(used, at) else {
         return Next::Damaged;
     };
     if kind == 1 {
-        return read_parts(used, at, at + 6, end);
+        return read_parts(used, at, at + HEAD, end);
     }
     if kind != 4 {
         return Next::Damaged;
@@ -219,7 +219,7 @@ fn put_number(out: &mut [u8], at: usize, n: usize)
     requires { at + 4 ≤ length out.old }
     ensures { out.new ≡ over out.old at (little_endian 4 n) }
 {
-    record::put4(&mut out[at..], n);
+    record::put_number::<4>(&mut out[at..], n);
 }
 
 // The head of a record of kind 4 at a place, and its person.
@@ -228,8 +228,8 @@ fn put_person(out: &mut [u8], at: usize, size: usize, person: u16)
     ensures { out.new ≡ over out.old at (head_bytes size 4 ++ little_endian 2 person) }
 {
     record::put_head(&mut out[at..], size, 4);
-    let from = at + 6;
-    record::put2(&mut out[from..], person);
+    let from = at + HEAD;
+    record::put_number::<2>(&mut out[from..], usize::from(person));
 }
 
 // The record of a person's edit at a place, up to its new bytes, for which there is room.
@@ -263,11 +263,11 @@ fn person_in(used: &[u8], n: usize) -> Named
     requires { there (edits used.now) ≡ true }
     ensures { TellsPerson used.now n result }
 {
-    let Bounds::Body { from, to: _ } = record::nth(used, n) else {
+    let Some(Bounds { from, .. }) = record::nth(used, n) else {
         return Named::Refused(Fault::NothingLeft);
     };
-    if record::number2(used, from - 2) == 4 {
-        return Named::Person(record::number2(used, from));
+    if record::number::<2>(used, from - 2) == 4 {
+        return Named::Person(record::number::<2>(used, from) as u16);
     }
     Named::Person(0)
 }
@@ -300,7 +300,7 @@ fn oldest_end(used: &[u8], standing: usize, k: usize) -> Oldest
     if k == 0 {
         return Oldest::End(0);
     }
-    let Bounds::Body { from: _, to } = record::nth(used, k - 1) else {
+    let Some(Bounds { to, .. }) = record::nth(used, k - 1) else {
         return Oldest::Fewer;
     };
     if standing < to {

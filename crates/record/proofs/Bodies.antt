@@ -12,8 +12,6 @@ use Rattle.base.specs.Choice.{pick, maybe, there}
 use Rattle.base.specs.Lists.{part, all}
 use Rattle.base.proofs.Scan.{done}
 use Rattle.base.proofs.Tests.{no}
-use Rattle.record.specs.declared.Filled.{Filled}
-use Rattle.record.specs.declared.Filled.TheVariants as filled
 use Rattle.record.specs.Record.{Rec, list_of, length_at, record_at, whole, cut, bodies_of, read_list}
 use Rattle.record.specs.Walk.{count_of}
 use Rattle.record.proofs.Place.{Stands}
@@ -88,18 +86,13 @@ list-within kind most s h = rw (le-leb _ _ h)
 
 -- ---- counted by a loop
 
--- what `count_of` makes of a list's bodies
-abbrev filled_by : Option (List (List ℕ)) → Filled
-filled_by o = maybe o filled.Damaged (λ bs. filled.Records (length bs))
-
--- the same with so many records before these
-abbrev counted : ℕ → Option (List (List ℕ)) → Filled
-counted n None = filled.Damaged
-counted n (Some bs) = filled.Records (n + length bs)
+-- so many, and those that a list's bodies are
+abbrev counted : ℕ → Option (List (List ℕ)) → Option ℕ
+counted n o = option_map (λ bs. n + length bs) o
 
 counted_next : (n : ℕ) (b : List ℕ) (o : Option (List (List ℕ))) → counted n (option_map (λ bs. b ∷ bs) o) ≡ counted (n + 1) o
 counted_next n b None = refl
-counted_next n b (Some bs) = ap filled.Records (omega arith)
+counted_next n b (Some bs) = ap Some (omega arith)
 
 -- so many records stand before a place, and those from there on decide
 pub record Counting (kind most : ℕ) (s : List ℕ) (at n : ℕ) : Type 0 where
@@ -107,7 +100,7 @@ pub record Counting (kind most : ℕ) (s : List ℕ) (at n : ℕ) : Type 0 where
   pub few : n ≤ at
   pub same : count_of kind most s ≡ counted n (bodies kind (drop at s))
 
-pub count_long : (kind most : ℕ) (s : List ℕ) → most < length s → filled.Damaged ≡ count_of kind most s
+pub count_long : (kind most : ℕ) (s : List ℕ) → most < length s → None ≡ count_of kind most s
 unfolding count_of
 count_long kind most s h = rw (list-long kind most s h)
 
@@ -115,15 +108,15 @@ pub count-begin : (kind most : ℕ) (s : List ℕ) → length s ≤ most → Cou
 unfolding count_of
 count-begin kind most s h = record { inside = omega arith; few = omega arith; same = rw (list-within kind most s h) (go (bodies kind s)) }
   where
-    go : (o : Option (List (List ℕ))) → filled_by o ≡ counted 0 o
+    go : (o : Option (List (List ℕ))) → option_map length o ≡ counted 0 o
     go None = refl
-    go (Some bs) = ap filled.Records (omega arith)
+    go (Some bs) = ap Some (omega arith)
 
 module _ {kind most : ℕ} {s : List ℕ} {at n : ℕ} (w : Counting kind most s at n) where
-  pub count-damaged : at < length s → whole (drop at s) ≡ false → filled.Damaged ≡ count_of kind most s
+  pub count-damaged : at < length s → whole (drop at s) ≡ false → None ≡ count_of kind most s
   count-damaged h e = rw (w.same, bodies-damaged-at kind s at h e)
 
-  pub count-other : {k end : ℕ} → Stands s at k end → (k ≡ kind → ⊥) → filled.Damaged ≡ count_of kind most s
+  pub count-other : {k end : ℕ} → Stands s at k end → (k ≡ kind → ⊥) → None ≡ count_of kind most s
   count-other r e = rw (w.same, bodies-other-at kind r e)
 
   pub count_next : {k end : ℕ} → Stands s at k end → k ≡ kind → Counting kind most s end (n + 1)
@@ -134,8 +127,8 @@ module _ {kind most : ℕ} {s : List ℕ} {at n : ℕ} (w : Counting kind most s
         same = w.same ∙ rw (bodies-at kind r e) (counted_next n (part (at + 6) end s) (bodies kind (drop end s)));
       }
 
-  pub count-done : length s ≤ at → filled.Records n ≡ count_of kind most s
-  count-done h = rw (w.same, bodies-done kind s at h) (ap filled.Records (omega arith))
+  pub count-done : length s ≤ at → Some n ≡ count_of kind most s
+  count-done h = rw (w.same, bodies-done kind s at h) (ap Some (omega arith))
 
 -- ---- a sound list
 
@@ -168,19 +161,19 @@ pub list-cut : (kind most : ℕ) (s : List ℕ) {bs : List (List ℕ)} → read_
 list-cut kind most s e = rw (list-sound kind most s e).cuts
 
 -- what `count` answers: the list reads, and has so many bodies; or it does not read
-pub count-reads : (kind most : ℕ) (s : List ℕ) {n : ℕ} → count_of kind most s ≡ filled.Records n → (bs : List (List ℕ)) × (read_list kind most s ≡ Some bs) × (length bs ≡ n)
+pub count-reads : (kind most : ℕ) (s : List ℕ) {n : ℕ} → count_of kind most s ≡ Some n → (bs : List (List ℕ)) × (read_list kind most s ≡ Some bs) × (length bs ≡ n)
 unfolding count_of
 count-reads kind most s {n} = go (read_list kind most s)
   where
-    go : (o : Option (List (List ℕ))) → filled_by o ≡ filled.Records n → (bs : List (List ℕ)) × (o ≡ Some bs) × (length bs ≡ n)
+    go : (o : Option (List (List ℕ))) → option_map length o ≡ Some n → (bs : List (List ℕ)) × (o ≡ Some bs) × (length bs ≡ n)
     go None e = no (cc)
     go (Some bs) e = (bs, refl, cc)
 
-pub count-refuses : (kind most : ℕ) (s : List ℕ) → count_of kind most s ≡ filled.Damaged → read_list kind most s ≡ None
+pub count-refuses : (kind most : ℕ) (s : List ℕ) → count_of kind most s ≡ None → read_list kind most s ≡ None
 unfolding count_of
 count-refuses kind most s = go (read_list kind most s)
   where
-    go : (o : Option (List (List ℕ))) → filled_by o ≡ filled.Damaged → o ≡ None
+    go : (o : Option (List (List ℕ))) → option_map length o ≡ None → o ≡ None
     go None e = refl
     go (Some bs) e = no (cc)
 

@@ -1,7 +1,8 @@
 -- Numbers in little-endian bytes: how they read back, and what the bytes at a place are as a number. Assumes nothing.
 use mathlib.Core.Path.{◌≡◌, refl, sym, ap}
-use mathlib.Core.List.{List}
-use Prim.Native.Nat.{ℕ, zero, suc, ◌+◌, ◌*◌, ◌/◌, ◌≤◌, ◌<◌}
+use mathlib.Core.List.{List, [], ◌∷◌}
+use Prim.Native.Nat.{ℕ, zero, suc, ◌+◌, ◌-◌, ◌*◌, ◌/◌, ◌%◌, ◌^◌, ◌≤◌, ◌<◌}
+use native.Mathlib.Nat.{pow-suc, pow-le-pow_right}
 use native.Mathlib.Omega.{arith}
 use lib.ListN.{length, get_or, take, drop}
 use Rattle.base.proofs.Scan.{here}
@@ -39,13 +40,42 @@ pub number-here : (s : List ℕ) (at width : ℕ) → at < length s
 unfolding number_in
 number-here s at width h = rw (here s at h)
 
-pub two_bytes : (s : List ℕ) (at : ℕ) → at + 2 ≤ length s → number_in (take 2 (drop at s)) ≡ get_or s at 0 + 256 * get_or s (at + 1) 0
-unfolding number_in
-two_bytes s at h = rw (number-here s at 1 (omega arith), number-here s (at + 1) 0 (omega arith)) (omega arith)
+-- ---- read and written by a loop
 
-pub four_bytes : (s : List ℕ) (at : ℕ) → at + 4 ≤ length s
-    → number_in (take 4 (drop at s)) ≡ get_or s at 0 + 256 * (get_or s (at + 1) 0 + 256 * (get_or s (at + 2) 0 + 256 * get_or s (at + 3) 0))
-four_bytes s at h =
-    let j : at + 1 + 1 ≡ at + 2 = omega arith in
-    let k : at + 2 + 1 ≡ at + 3 = omega arith in
-    rw (number-here s at 3 (omega arith), number-here s (at + 1) 2 (omega arith), j, two_bytes s (at + 2) (omega arith), k)
+-- of so many bytes at a place those from byte i on, as a number
+pub record Reading (s : List ℕ) (at width i n : ℕ) : Type 0 where
+  pub is : n ≡ number_in (take (width - i) (drop (at + i) s))
+  pub small : n < 256 ^ (width - i)
+
+module _ (s : List ℕ) (at width : ℕ) where
+  pub reading-begin : Reading s at width width 0
+  unfolding number_in
+  reading-begin = let z : width - width ≡ 0 = omega arith in record { is = rw z; small = rw z (omega arith) }
+
+  pub reading-done : {n : ℕ} → Reading s at width 0 n → (n ≡ number_in (take width (drop at s))) × (n < 256 ^ width)
+  reading-done r = let z : width - 0 ≡ width = omega arith in let k : at + 0 ≡ at = omega arith in (rw (z, k) at r.is, rw z at r.small)
+
+  module _ {i n : ℕ} (r : Reading s at width i n) where
+    pub reading-small : width ≤ 4 → n < 4294967296
+    reading-small h =
+        let p : 256 ^ (width - i) ≤ 256 ^ 4 = pow-le-pow_right (omega arith) {i = width - i} {j = 4} (omega arith) in
+        omega (arith, p, r.small)
+
+    pub reading-next : {b : ℕ} → at + width ≤ length s → i ≤ width → 0 < i → b ≡ get_or s (at + (i - 1)) 0 → b < 256 → Reading s at width (i - 1) (b + 256 * n)
+    reading-next h l p e f =
+        let w : width - (i - 1) ≡ suc (width - i) = omega arith in
+        let k : at + (i - 1) + 1 ≡ at + i = omega arith in
+        let q : 256 ^ suc (width - i) ≡ 256 ^ (width - i) * 256 = pow-suc 256 (width - i) in
+        record {
+          is = rw (w, number-here s (at + (i - 1)) (width - i) (omega arith), k) (omega (arith, r.is));
+          small = rw (w, q) (omega (arith, r.small));
+        }
+
+-- the bytes of a number from byte i on
+pub bytes-next : (width i n : ℕ) → i < width → little_endian (width - i) n ≡ n % 256 ∷ little_endian (width - (i + 1)) (n / 256)
+unfolding little_endian
+bytes-next width i n h = let z : width - i ≡ suc (width - (i + 1)) = omega arith in rw z
+
+pub bytes-end : (width i n : ℕ) → width ≤ i → little_endian (width - i) n ≡ []
+unfolding little_endian
+bytes-end width i n h = let z : width - i ≡ 0 = omega arith in rw z

@@ -1,5 +1,6 @@
 -- What stands at the front of a list of bytes, and at a place in it: a whole record or none. Assumes nothing.
-use mathlib.Core.Path.{◌≡◌, refl}
+use Rattle.std.specs.Prelude.{Some, None}
+use mathlib.Core.Path.{◌≡◌, refl, sym, ap}
 use mathlib.Core.Bool.{Bool, true, false, ◌&&◌, and-false}
 use mathlib.Core.List.{List}
 use Prim.Native.Nat.{ℕ, ◌+◌, ◌≤◌, ◌<◌}
@@ -10,7 +11,7 @@ use lib.Seq.{drop-drop}
 use lib.Dec.{leb}
 use Rattle.base.specs.Choice.{pick}
 use Rattle.base.proofs.Tests.{no, and_both}
-use Rattle.record.specs.declared.Front.TheVariants as front
+use Rattle.record.specs.declared.Front.{Front}
 use Rattle.record.specs.Number.{number_in}
 use Rattle.record.specs.Record.{length_at, record_at, whole}
 use Rattle.record.specs.Walk.{front_at}
@@ -53,33 +54,37 @@ pub record Stands (s : List ℕ) (at kind end : ℕ) : Type 0 where
   pub inside : end ≤ length s
 
 module _ (s : List ℕ) (at : ℕ) where
-  pub damaged-at : whole (drop at s) ≡ false → front.Damaged ≡ front_at s at
+  -- the kind and the end of a record at the place
+  abbrev front_of : List ℕ → Front
+  front_of t = record { kind = (record_at t).kind; end = at + length_at t }
+
+  pub damaged-at : whole (drop at s) ≡ false → None ≡ front_at s at
   unfolding front_at
   damaged-at e = rw e
 
   pub record-there : {kind end : ℕ} → whole (drop at s) ≡ true → kind ≡ number_in (take 2 (drop (at + 4) s)) → end ≡ at + length_at (drop at s)
-      → front.Record kind end ≡ front_at s at
+      → Some (record { kind = kind; end = end }) ≡ front_at s at
   unfolding front_at
   record-there e k n = rw (e, k, n, drop-drop 4 at s)
 
   -- what `read` found
-  pub front-damaged : front_at s at ≡ front.Damaged → whole (drop at s) ≡ false
+  pub front-damaged : front_at s at ≡ None → whole (drop at s) ≡ false
   unfolding front_at
   front-damaged = go (whole (drop at s))
     where
-      go : (t : Bool) → pick t (front.Record (record_at (drop at s)).kind (at + length_at (drop at s))) front.Damaged ≡ front.Damaged → t ≡ false
+      go : (t : Bool) → pick t (Some (front_of (drop at s))) None ≡ None → t ≡ false
       go true e = no (cc)
       go false e = refl
 
-  pub front-record : {kind end : ℕ} → front_at s at ≡ front.Record kind end → Stands s at kind end
+  pub front-record : {f : Front} → front_at s at ≡ Some f → Stands s at f.kind f.end
   unfolding front_at
-  front-record {kind} {end} = go (whole (drop at s)) refl
+  front-record {f} = go (whole (drop at s)) refl
     where
-      go : (t : Bool) → whole (drop at s) ≡ t
-          → pick t (front.Record (record_at (drop at s)).kind (at + length_at (drop at s))) front.Damaged ≡ front.Record kind end → Stands s at kind end
+      go : (t : Bool) → whole (drop at s) ≡ t → pick t (Some (front_of (drop at s))) None ≡ Some f → Stands s at f.kind f.end
       go false w e = no (cc)
       go true w e =
           let b = whole-bounds (drop at s) w in
           let l = length-drop at s in
-          let n : end ≡ at + length_at (drop at s) = cc in
-          record { is_whole = w; has-kind = cc; ends = n; head-inside = omega arith; inside = omega arith }
+          let q : front_of (drop at s) ≡ f = cc in
+          let n : f.end ≡ at + length_at (drop at s) = ap (λ (g : Front). g.end) (sym q) in
+          record { is_whole = w; has-kind = ap (λ (g : Front). g.kind) (sym q); ends = n; head-inside = omega arith; inside = omega arith }

@@ -1,6 +1,6 @@
 -- The n-th body of a list of records: how a loop finds it, and that it is the n-th record's. Assumes nothing.
 use Rattle.std.specs.Prelude.{Option, Some, None, option_map}
-use mathlib.Core.Path.{◌≡◌, refl, sym, ◌∙◌}
+use mathlib.Core.Path.{◌≡◌, refl, sym, ap, ◌∙◌}
 use mathlib.Core.Bool.{true, false}
 use mathlib.Core.List.{List, [], ◌∷◌}
 use Prim.Native.Nat.{ℕ, zero, suc, ◌+◌, ◌-◌, ◌≤◌, ◌<◌}
@@ -12,7 +12,6 @@ use Rattle.base.proofs.Lists.{length_part}
 use Rattle.base.proofs.Scan.{done}
 use Rattle.base.proofs.Tests.{no, there-map}
 use Rattle.record.specs.declared.Bounds.{Bounds}
-use Rattle.record.specs.declared.Bounds.TheVariants as bounds
 use Rattle.record.specs.Record.{Rec, record_length, whole, cut, read_list}
 use Rattle.record.specs.Walk.{bounds_from, nth_of}
 use Rattle.record.proofs.Place.{Stands}
@@ -22,8 +21,8 @@ use Rattle.record.proofs.Bodies.{bodies_in, list-sound}
 -- ---- found by a loop
 
 -- where the n-th body stands among records from a place on; none in damaged ones
-abbrev sought : Option (List Rec) → ℕ → ℕ → Bounds
-sought o n at = maybe o bounds.Missing (λ rs. bounds_from rs n at)
+abbrev sought : Option (List Rec) → ℕ → ℕ → Option Bounds
+sought o n at = maybe o None (λ rs. bounds_from rs n at)
 
 -- the records from a place on are sound, and the one that is left to pass so many others decides
 pub record Seeking (s : List ℕ) (n at left : ℕ) : Type 0 where
@@ -41,16 +40,16 @@ module _ (r : Rec) (at : ℕ) where
   sought-next None e = refl
   sought-next (Some rs) e = rw e
 
-  sought-here : (o : Option (List Rec)) → there o ≡ true → sought (option_map (λ rs. r ∷ rs) o) 0 at ≡ bounds.Body (at + 6) (at + record_length r.body)
+  sought-here : (o : Option (List Rec)) → there o ≡ true → sought (option_map (λ rs. r ∷ rs) o) 0 at ≡ Some (record { from = at + 6; to = at + record_length r.body })
   unfolding bounds_from
   sought-here None e = no (cc)
   sought-here (Some rs) e = refl
 
 module _ {s : List ℕ} {n at left : ℕ} (w : Seeking s n at left) where
-  pub seek-damaged : at < length s → whole (drop at s) ≡ false → bounds.Missing ≡ nth_of s n
+  pub seek-damaged : at < length s → whole (drop at s) ≡ false → None ≡ nth_of s n
   seek-damaged h e = rw (w.same, cut-damaged-at s at h e)
 
-  pub seek-done : length s ≤ at → bounds.Missing ≡ nth_of s n
+  pub seek-done : length s ≤ at → None ≡ nth_of s n
   unfolding bounds_from
   seek-done h = rw (w.same, done s at h, cut-none)
 
@@ -72,7 +71,7 @@ module _ {s : List ℕ} {n at left : ℕ} (w : Seeking s n at left) where
           same = w.same ∙ rw (cut_at r, sought-next found at (cut (drop end s)) {n = left} {m = left - 1} (omega arith), ends);
         }
 
-    pub seek-here : left ≡ 0 → bounds.Body (at + 6) end ≡ nth_of s n
+    pub seek-here : left ≡ 0 → Some (record { from = at + 6; to = end }) ≡ nth_of s n
     seek-here z = rw (w.same, cut_at r, z, sought-here found at (cut (drop end s)) others-sound, ends)
 
 -- ---- what is found
@@ -84,24 +83,29 @@ pub record NthBody (s : List ℕ) (bs : List (List ℕ)) (n from to : ℕ) : Typ
   pub ordered : from ≤ to
   pub inside : to ≤ length s
 
-nth-from : (s : List ℕ) (at : ℕ) (rs : List Rec) (n : ℕ) {from to : ℕ} → cut (drop at s) ≡ Some rs → bounds_from rs n at ≡ bounds.Body from to
-    → NthBody s (bodies_in rs) n from to
+-- the first body stands behind the head
+pub first-bounds : (r : Rec) (rs : List Rec) (at : ℕ) {b : Bounds} → bounds_from (r ∷ rs) 0 at ≡ Some b → (b.from ≡ at + 6) × (b.to ≡ at + record_length r.body)
+unfolding bounds_from
+first-bounds r rs at {b} h =
+    let q : record { from = at + 6; to = at + record_length r.body } ≡ b = cc in (ap (λ (x : Bounds). x.from) (sym q), ap (λ (x : Bounds). x.to) (sym q))
+
+nth-from : (s : List ℕ) (at : ℕ) (rs : List Rec) (n : ℕ) {b : Bounds} → cut (drop at s) ≡ Some rs → bounds_from rs n at ≡ Some b
+    → NthBody s (bodies_in rs) n b.from b.to
 unfolding bounds_from
 nth-from s at [] n e h = no (cc)
-nth-from s at (r ∷ rs) zero {from} {to} e h =
+nth-from s at (r ∷ rs) zero {b} e h =
     let c = cut-some-at s at e in
-    let f : from ≡ at + 6 = cc in
-    let t : to ≡ at + record_length r.body = cc in
-    record { among = omega arith; body = rw (f, t) c.body; ordered = omega arith; inside = omega (arith, c.stands.inside) }
+    let q = first-bounds r rs at h in
+    record { among = omega arith; body = rw (q.0, q.1) c.body; ordered = omega arith; inside = omega (arith, c.stands.inside) }
 nth-from s at (r ∷ rs) (suc n) e h =
     let c = nth-from s (at + record_length r.body) rs n (cut-some-at s at e).others h in
     record { among = omega arith; body = c.body; ordered = c.ordered; inside = c.inside }
 
-pub nth-part : (s : List ℕ) (rs : List Rec) (n : ℕ) {from to : ℕ} → cut s ≡ Some rs → bounds_from rs n 0 ≡ bounds.Body from to → NthBody s (bodies_in rs) n from to
+pub nth-part : (s : List ℕ) (rs : List Rec) (n : ℕ) {b : Bounds} → cut s ≡ Some rs → bounds_from rs n 0 ≡ Some b → NthBody s (bodies_in rs) n b.from b.to
 nth-part s = nth-from s 0
 
 -- no body: the records are fewer
-pub nth-missing : (rs : List Rec) (n at : ℕ) → bounds_from rs n at ≡ bounds.Missing → length rs ≤ n
+pub nth-missing : (rs : List Rec) (n at : ℕ) → bounds_from rs n at ≡ None → length rs ≤ n
 unfolding bounds_from
 nth-missing [] n at h = omega arith
 nth-missing (r ∷ rs) zero at h = no (cc)
@@ -109,13 +113,13 @@ nth-missing (r ∷ rs) (suc n) at h = let l = nth-missing rs n (at + record_leng
 
 -- the same of a list of one kind
 module _ (kind most : ℕ) (s : List ℕ) {bs : List (List ℕ)} (n : ℕ) (e : read_list kind most s ≡ Some bs) where
-  pub nth-body : {from to : ℕ} → nth_of s n ≡ bounds.Body from to → NthBody s bs n from to
+  pub nth-body : {b : Bounds} → nth_of s n ≡ Some b → NthBody s bs n b.from b.to
   unfolding nth_of
   nth-body h =
       let l = list-sound kind most s e in
       rw l.bodies_are (nth-part s l.records n l.cuts (rw l.cuts at h))
 
-  pub nth_past : nth_of s n ≡ bounds.Missing → length bs ≤ n
+  pub nth_past : nth_of s n ≡ None → length bs ≤ n
   unfolding nth_of
   nth_past h =
       let l = list-sound kind most s e in

@@ -1,7 +1,7 @@
 // Records in lent bytes, of any kind: read, counted, found and written.
 #![tactic(auto)]
 
-ghost use Rattle.std.specs.Prelude.{◌≡◌, true, ◌+◌, ◌≤◌, ◌<◌, length, take, drop};
+ghost use Rattle.std.specs.Prelude.{◌≡◌, true, ◌+◌, ◌≤◌, ◌<◌, ◌^◌, length, take, drop};
 ghost use Rattle.base.specs.Choice.{there};
 ghost use Rattle.base.specs.Over.{over, at_front};
 ghost use Rattle.record.specs.Number.{little_endian, number_in};
@@ -11,143 +11,105 @@ ghost use Rattle.record.specs.Walk.{front_at, count_of, nth_of};
 // The bytes before a record's own: its length and its kind.
 pub const HEAD: usize = 6;
 
-// What stands at a place: a whole record, or none.
+// What stands at a place: a whole record's kind and its end.
 #[derive(Clone, Copy)]
-pub enum Front {
-    Record { kind: u16, end: usize },
-    Damaged,
-}
-
-// How many records fill a list.
-#[derive(Clone, Copy)]
-pub enum Filled {
-    Records(usize),
-    Damaged,
+pub struct Front {
+    pub kind: u16,
+    pub end: usize,
 }
 
 // Where a record's body stands.
 #[derive(Clone, Copy)]
-pub enum Bounds {
-    Body { from: usize, to: usize },
-    Missing,
+pub struct Bounds {
+    pub from: usize,
+    pub to: usize,
 }
 
-// A byte as a number to reckon with.
-pub fn wide(b: u8) -> usize
-    ensures { (result ≡ b) × (result < 256) }
+// The number in the N bytes at a place.
+pub fn number<const N: usize>(s: &[u8], at: usize) -> usize
+    requires { (at + N ≤ length s.now) × (N ≤ 4) }
+    ensures { (result ≡ number_in (take N (drop at s.now))) × (result < 256 ^ N) }
 {
-    b as usize
+    let mut n: usize = 0;
+    for i in (0..N).rev() {
+        n = usize::from(s[at + i]) + 256 * n;
+    }
+    n
 }
 
-fn wide16(b: u8) -> u16
-    ensures { (result ≡ b) × (result < 256) }
-{
-    b as u16
-}
-
-// The number in the two bytes at a place.
-pub fn number2(s: &[u8], at: usize) -> u16
-    requires { at + 2 ≤ length s.now }
-    ensures { result ≡ number_in (take 2 (drop at s.now)) }
-{
-    wide16(s[at]) + 256 * wide16(s[at + 1])
-}
-
-// The number in the four bytes at a place.
-pub fn number4(s: &[u8], at: usize) -> usize
-    requires { at + 4 ≤ length s.now }
-    ensures { (result ≡ number_in (take 4 (drop at s.now))) × (result < 4294967296) }
-{
-    wide(s[at]) + 256 * (wide(s[at + 1]) + 256 * (wide(s[at + 2]) + 256 * wide(s[at + 3])))
-}
-
-// The record that begins at a place.
-pub fn read(s: &[u8], at: usize) -> Front
+// The record that begins at a place, if a whole one stands there.
+pub fn read(s: &[u8], at: usize) -> Option<Front>
     ensures { result ≡ front_at s.now at }
 {
     if s.len() < at {
-        return Front::Damaged;
+        return None;
     }
-    if s.len() - at < 6 {
-        return Front::Damaged;
+    if s.len() - at < HEAD {
+        return None;
     }
-    let size = number4(s, at);
-    if size < 6 {
-        return Front::Damaged;
+    let size = number::<4>(s, at);
+    if size < HEAD {
+        return None;
     }
     if s.len() - at < size {
-        return Front::Damaged;
+        return None;
     }
-    let kind = number2(s, at + 4);
-    Front::Record {
-        kind,
-        end: at + size,
-    }
+    let kind = number::<2>(s, at + 4) as u16;
+    let end = at + size;
+    Some(Front { kind, end })
 }
 
-// How many records of a kind fill a list of at most so many bytes, or that it is damaged.
-pub fn count(s: &[u8], kind: u16, most: usize) -> Filled
+// How many records of a kind fill a list of at most so many bytes; none: it is damaged.
+pub fn count(s: &[u8], kind: u16, most: usize) -> Option<usize>
     ensures { result ≡ count_of kind most s.now }
 {
     if most < s.len() {
-        return Filled::Damaged;
+        return None;
     }
     let mut at: usize = 0;
     let mut n: usize = 0;
     while at < s.len() {
-        let Front::Record { kind: k, end } = read(s, at) else {
-            return Filled::Damaged;
-        };
-        if k != kind {
-            return Filled::Damaged;
+        let front = read(s, at)?;
+        if front.kind != kind {
+            return None;
         }
-        at = end;
+        at = front.end;
         n += 1;
     }
-    Filled::Records(n)
+    Some(n)
 }
 
 // Where the n-th body of a list that is filled by records stands, counted from 0.
-pub fn nth(s: &[u8], n: usize) -> Bounds
+pub fn nth(s: &[u8], n: usize) -> Option<Bounds>
     requires { there (cut s.now) ≡ true }
     ensures { result ≡ nth_of s.now n }
 {
     let mut at: usize = 0;
     let mut left = n;
     while at < s.len() {
-        let Front::Record { kind: _, end } = read(s, at) else {
-            return Bounds::Missing;
-        };
+        let front = read(s, at)?;
         if left == 0 {
-            return Bounds::Body {
-                from: at + 6,
-                to: end,
-            };
+            return Some(Bounds {
+                from: at + HEAD,
+                to: front.end,
+            });
         }
-        at = end;
+        at = front.end;
         left -= 1;
     }
-    Bounds::Missing
+    None
 }
 
-// A number in the four bytes at the start of a part.
-pub fn put4(out: &mut [u8], n: usize)
-    requires { 4 ≤ length out.old }
-    ensures { out.new ≡ at_front out.old (little_endian 4 n) }
+// A number in the N bytes at the start of a part.
+pub fn put_number<const N: usize>(out: &mut [u8], n: usize)
+    requires { N ≤ length out.old }
+    ensures { out.new ≡ at_front out.old (little_endian N n) }
 {
-    out[0] = (n % 256) as u8;
-    out[1] = (n / 256 % 256) as u8;
-    out[2] = (n / 256 / 256 % 256) as u8;
-    out[3] = (n / 256 / 256 / 256 % 256) as u8;
-}
-
-// A number in the two bytes at the start of a part.
-pub fn put2(out: &mut [u8], n: u16)
-    requires { 2 ≤ length out.old }
-    ensures { out.new ≡ at_front out.old (little_endian 2 n) }
-{
-    out[0] = (n % 256) as u8;
-    out[1] = (n / 256 % 256) as u8;
+    let mut rest = n;
+    for i in 0..N {
+        out[i] = (rest % 256) as u8;
+        rest /= 256;
+    }
 }
 
 // The length and the kind at the start of a part.
@@ -155,8 +117,8 @@ pub fn put_head(out: &mut [u8], size: usize, kind: u16)
     requires { 6 ≤ length out.old }
     ensures { out.new ≡ at_front out.old (head_bytes size kind) }
 {
-    put4(out, size);
-    put2(&mut out[4..], kind);
+    put_number::<4>(out, size);
+    put_number::<2>(&mut out[4..], usize::from(kind));
 }
 
 // A record through the part of an output that starts at a place; the answer is where it ends.
@@ -165,8 +127,8 @@ pub fn put(out: &mut [u8], at: usize, kind: u16, body: &[u8]) -> usize
     ensures { (result ≡ at + record_length body.now)
         × (out.new ≡ over out.old at (record_bytes (record { kind = kind; body = body.now }))) }
 {
-    put_head(&mut out[at..], 6 + body.len(), kind);
-    let from = at + 6;
+    put_head(&mut out[at..], HEAD + body.len(), kind);
+    let from = at + HEAD;
     base::copy(body, &mut out[from..]);
     from + body.len()
 }

@@ -6,7 +6,7 @@ ghost use Rattle.base.specs.Choice.{there};
 ghost use Rattle.requests.specs.Requests.{read_request, read_requests};
 ghost use Rattle.requests.specs.Places.{Ends, Reads};
 
-use record::Front;
+use record::{Front, HEAD};
 
 // Where a field ends, or that it is not whole.
 #[derive(Clone, Copy)]
@@ -34,7 +34,7 @@ fn field_end(body: &[u8], at: usize) -> Field
     if left < 4 {
         return Field::Short;
     }
-    let size = record::number4(body, at);
+    let size = record::number::<4>(body, at);
     if left - 4 < size {
         return Field::Short;
     }
@@ -89,10 +89,10 @@ pub fn sound(list: &[u8]) -> bool
     }
     let mut at: usize = 0;
     while at < list.len() {
-        let Front::Record { kind, end } = record::read(list, at) else {
+        let Some(Front { kind, end }) = record::read(list, at) else {
             return false;
         };
-        let from = at + 6;
+        let from = at + HEAD;
         if is_request(kind, &list[from..end]) {
             at = end;
         } else {

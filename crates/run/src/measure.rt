@@ -105,7 +105,14 @@ fn text_left(
     requires { length s.now ≤ file_most }
     ensures { result ≡ spend left (length (list_of 3 (run.pieces_bytes (spec.put_of item.now name.now location.now) (pieces_of quoted s.now) ∷ []))) }
 {
-    pieces_left(s, quoted, item, name, location, text::spend(left, 6))
+    pieces_left(
+        s,
+        quoted,
+        item,
+        name,
+        location,
+        text::spend(left, record::HEAD),
+    )
 }
 
 // The room left after the records of `--icon` and the Icon.

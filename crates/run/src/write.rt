@@ -10,7 +10,7 @@ ghost use Rattle.run.specs.Step as spec;
 
 use crate::measure;
 use command::{Form, Piece};
-use record::Front;
+use record::{Front, HEAD};
 
 // What a piece stands for, at the start of an output that has room for it; the answer is how many bytes it is.
 fn put_piece(out: &mut [u8], p: Piece, item: &[u8], name: &[u8], location: &[u8]) -> usize
@@ -62,8 +62,8 @@ fn put_text(
         (list_of 3 (run.pieces_bytes (spec.put_of item.now name.now location.now) (pieces_of quoted s.now) ∷ [])) result out.new }
 {
     let n = measure::pieces_length(s, quoted, item, name, location, out.len());
-    record::put_head(out, 6 + n, 3);
-    6 + put_pieces(&mut out[6..], s, quoted, item, name, location)
+    record::put_head(out, HEAD + n, 3);
+    HEAD + put_pieces(&mut out[HEAD..], s, quoted, item, name, location)
 }
 
 // An argument's record at the start of an output that has room for it; the answer is how many bytes it is.
@@ -82,10 +82,10 @@ fn put_items(out: &mut [u8], list: &[u8]) -> usize
     let mut from: usize = 0;
     let mut at: usize = 0;
     while from < list.len() {
-        let Front::Record { kind: _, end } = record::read(list, from) else {
+        let Some(Front { end, .. }) = record::read(list, from) else {
             return at;
         };
-        let body = from + 6;
+        let body = from + HEAD;
         at += put_argument(&mut out[at..], &list[body..end]);
         from = end;
     }

@@ -9,6 +9,7 @@ ghost use Rattle.text.specs.Step as spec;
 
 use crate::{Escapes, escape};
 use fault::Fault;
+use record::HEAD;
 
 // The room left after a record whose body has n bytes.
 #[tactic(auto, unfolding(crate::specs::Step::spend_record))]
@@ -18,7 +19,7 @@ fn spend_record(left: Option<usize>, n: usize) -> Option<usize>
     if 0xfffffff9 < n {
         return None;
     }
-    crate::spend(left, 6 + n)
+    crate::spend(left, HEAD + n)
 }
 
 // The room that the elements' records leave, or where an escape is wrong.
@@ -42,9 +43,9 @@ pub fn put(raw: &[u8], k: Escapes, out: &mut [u8], at: usize) -> usize
     ensures { (result ≡ at + record_length (spec.text_of (text_from k raw.now false 0)))
         × (out.new ≡ over out.old at (record_bytes (record { kind = 2; body = spec.text_of (text_from k raw.now false 0) }))) }
 {
-    let from = at + 6;
+    let from = at + HEAD;
     let n = escape::unescape(raw, k, &mut out[from..]);
-    record::put_head(&mut out[at..], 6 + n, 2);
+    record::put_head(&mut out[at..], HEAD + n, 2);
     from + n
 }
 

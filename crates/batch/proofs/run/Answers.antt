@@ -8,14 +8,14 @@ use Rattle.edit.specs.Calls.{lent}
 use Rattle.edit.proofs.Opening.{opened-fits}
 use Rattle.batch.proofs.Running.{run-begin, run-damaged, run-done, run-stopped, run-next}
 use Rattle.batch.proofs.run.Goals as goal
-use Rattle.batch.proofs.run.Goals.{In-Record}
+use Rattle.batch.proofs.run.Goals.{In-Some}
 
 pub loop-at-init : goal.loop-at-init
 loop-at-init c = (run-begin (lent c.args.file.now c.args.size c.args.journal.now c.args.used c.args.standing) (Person c.args.person) c.args.list.now c.requires.opens c.requires.list_reads, refl, refl)
 
 -- the record that stands at the place
-stands : (c : In-Record) → Stands c.args.list.now c.loop-at.at c.in-Record.kind c.in-Record.end
-stands c = front-record _ _ (sym c.read.ensures ∙ c.in-Record.is)
+stands : (c : In-Some) → Stands c.args.list.now c.loop-at.at c.in-Some.field-0.kind c.in-Some.field-0.end
+stands c = front-record _ _ (sym c.read.ensures ∙ c.in-Some.is)
 
 pub returns-in_default : goal.returns-in_default
 returns-in_default c =
@@ -23,11 +23,11 @@ returns-in_default c =
 
 pub returns-in-Refused : goal.returns-in-Refused
 returns-in-Refused c =
-    record { is = run-stopped c.loop-at.invariant.0 (stands (goal.at.returns-in-Refused c).In-Record) (rw c.in-Refused.is at c.make.ensures) }
+    record { is = run-stopped c.loop-at.invariant.0 (stands (goal.at.returns-in-Refused c).In-Some) (rw c.in-Refused.is at c.make.ensures) }
 
 pub loop-at-preserved : goal.loop-at-preserved
 loop-at-preserved c =
-    (run-next c.loop-at.invariant.0 (stands (goal.at.loop-at-preserved c).In-Record) (search rules) (rw c.in-Done.is at c.make.ensures), search rules, search rules)
+    (run-next c.loop-at.invariant.0 (stands (goal.at.loop-at-preserved c).In-Some) (search rules) (rw c.in-Done.is at c.make.ensures), search rules, search rules)
 
 pub returns : goal.returns
 returns c = record { is = run-done c.loop-at.invariant.0 c.loop-at-test.false }
@@ -39,25 +39,25 @@ pub shape_of-journal-in_default : goal.shape_of-journal-in_default
 shape_of-journal-in_default c = c.loop-at.invariant.2
 
 pub overflow_add-from : goal.overflow_add-from
-overflow_add-from c = let r = stands (goal.at.overflow_add-from c).In-Record in omega arith
+overflow_add-from c = let r = stands (goal.at.overflow_add-from c).In-Some in omega arith
 
 pub slice_bounds-make-count : goal.slice_bounds-make-count
-slice_bounds-make-count c = (stands (goal.at.slice_bounds-make-count c).In-Record).head-inside
+slice_bounds-make-count c = (stands (goal.at.slice_bounds-make-count c).In-Some).head-inside
 
 pub slice_bounds-make-start : goal.slice_bounds-make-start
-slice_bounds-make-start c = (stands (goal.at.slice_bounds-make-start c).In-Record).head-inside
+slice_bounds-make-start c = (stands (goal.at.slice_bounds-make-start c).In-Some).head-inside
 
 pub slice_bounds-make-end : goal.slice_bounds-make-end
-slice_bounds-make-end c = (stands (goal.at.slice_bounds-make-end c).In-Record).inside
+slice_bounds-make-end c = (stands (goal.at.slice_bounds-make-end c).In-Some).inside
 
 pub make-requires : goal.make-requires
 make-requires c = (opened-fits (lent c.loop-at.file c.loop-at.length c.loop-at.journal c.loop-at.u c.loop-at.n) (rw c.loop-at.invariant.0.opens)).ready
 
 pub overflow_add-done : goal.overflow_add-done
-overflow_add-done c = let r = stands (goal.at.overflow_add-done c).In-Record in let w = c.loop-at.invariant.0 in omega arith
+overflow_add-done c = let r = stands (goal.at.overflow_add-done c).In-Some in let w = c.loop-at.invariant.0 in omega arith
 
 pub loop-at-smaller : goal.loop-at-smaller
-loop-at-smaller c = let r = stands (goal.at.loop-at-smaller c).In-Record in omega arith
+loop-at-smaller c = let r = stands (goal.at.loop-at-smaller c).In-Some in omega arith
 
 pub shape_of-file : goal.shape_of-file
 shape_of-file c = c.loop-at.invariant.1

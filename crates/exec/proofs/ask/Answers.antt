@@ -25,14 +25,14 @@ returns-in_default c =
 
 pub are_fit-requires : goal.are_fit-requires
 are_fit-requires c =
-    let k = count-reads 2 65536 c.args.list.now (sym c.count.ensures ∙ c.in-Records.is) in rw k.1
+    let k = count-reads 2 65536 c.args.list.now (sym c.count.ensures ∙ c.in-Some.is) in rw k.1
 
 -- where the file, the list, the locale and the items have passed, only the location is left to ask
 located : (c : After-is_fit_location) → let a = c.args in
-    then length (asked_items a.file.now a.locale.now a.location.now a.list.now) ≡ (need (fit_location a.location.now) UnfitText >>= λ _. Ok c.in-Records.n)
+    then length (asked_items a.file.now a.locale.now a.location.now a.list.now) ≡ (need (fit_location a.location.now) UnfitText >>= λ _. Ok c.in-Some.n)
 unfolding asked_items
 located c =
-    let k = count-reads 2 65536 c.args.list.now (sym c.count.ensures ∙ c.in-Records.is) in
+    let k = count-reads 2 65536 c.args.list.now (sym c.count.ensures ∙ c.in-Some.is) in
     let f = rw k.1 at (sym c.are_fit.ensures ∙ c.if-are_fit.true) in
     rw (sym c.check.ensures ∙ ap pass.answered c.in-Sound.is, k.1, sym c.is_locale.ensures ∙ c.if-is_locale.true, f)
     (counted (fit_location c.args.location.now) k.0 k.2)
@@ -46,7 +46,7 @@ returns-then-are_fit c = rw (located (goal.at.returns-then-are_fit c).After-is_f
 pub returns-then-is_locale : goal.returns-then-is_locale
 unfolding asked_items
 returns-then-is_locale c =
-    let k = count-reads 2 65536 c.args.list.now (sym c.count.ensures ∙ c.in-Records.is) in
+    let k = count-reads 2 65536 c.args.list.now (sym c.count.ensures ∙ c.in-Some.is) in
     let f = rw k.1 at (sym c.are_fit.ensures ∙ c.if-are_fit.false) in
     rw (sym c.check.ensures ∙ ap pass.answered c.in-Sound.is, k.1, sym c.is_locale.ensures ∙ c.if-is_locale.true, f)
 
@@ -57,5 +57,5 @@ returns-in-Refused c = rw (sym c.check.ensures ∙ ap pass.answered c.in-Refused
 pub returns-else-is_locale : goal.returns-else-is_locale
 unfolding asked_items
 returns-else-is_locale c =
-    let k = count-reads 2 65536 c.args.list.now (sym c.count.ensures ∙ c.in-Records.is) in
+    let k = count-reads 2 65536 c.args.list.now (sym c.count.ensures ∙ c.in-Some.is) in
     rw (sym c.check.ensures ∙ ap pass.answered c.in-Sound.is, k.1, sym c.is_locale.ensures ∙ c.if-is_locale.false)

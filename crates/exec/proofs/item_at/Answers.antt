@@ -18,16 +18,16 @@ returns-in_default c =
 
 pub slice_bounds-result-count : goal.slice_bounds-result-count
 slice_bounds-result-count c =
-    (nth-body 2 list_most c.args.list.now c.args.n (reads-some c.args.list.now c.requires) (sym c.nth.ensures ∙ c.in-Body.is)).ordered
+    (nth-body 2 list_most c.args.list.now c.args.n (reads-some c.args.list.now c.requires) (sym c.nth.ensures ∙ c.in-Some.is)).ordered
 
 pub returns : goal.returns
 returns c =
-    (nth-body 2 list_most c.args.list.now c.args.n (reads-some c.args.list.now c.requires) (sym c.nth.ensures ∙ c.in-Body.is)).body
+    (nth-body 2 list_most c.args.list.now c.args.n (reads-some c.args.list.now c.requires) (sym c.nth.ensures ∙ c.in-Some.is)).body
 
 pub slice_bounds-result-start : goal.slice_bounds-result-start
 slice_bounds-result-start c =
-    (nth-body 2 list_most c.args.list.now c.args.n (reads-some c.args.list.now c.requires) (sym c.nth.ensures ∙ c.in-Body.is)).ordered
+    (nth-body 2 list_most c.args.list.now c.args.n (reads-some c.args.list.now c.requires) (sym c.nth.ensures ∙ c.in-Some.is)).ordered
 
 pub slice_bounds-result-end-2 : goal.slice_bounds-result-end-2
 slice_bounds-result-end-2 c =
-    (nth-body 2 list_most c.args.list.now c.args.n (reads-some c.args.list.now c.requires) (sym c.nth.ensures ∙ c.in-Body.is)).inside
+    (nth-body 2 list_most c.args.list.now c.args.n (reads-some c.args.list.now c.requires) (sym c.nth.ensures ∙ c.in-Some.is)).inside

@@ -24,10 +24,10 @@ pub returns-then-standing-to : goal.returns-then-standing-to
 returns-then-standing-to c j h =
     let e = c in
     let n = e in
-    oldest-beyond _ _ _ j h (omega (arith, n.if-k-eq0.false)) (sym n.nth.ensures ∙ e.in-Body.is) c.if-standing-to.true
+    oldest-beyond _ _ _ j h (omega (arith, n.if-k-eq0.false)) (sym n.nth.ensures ∙ e.in-Some.is) c.if-standing-to.true
 
 pub returns : goal.returns
 returns c j h =
     let e = c in
     let n = e in
-    oldest-ends _ _ _ j h (omega (arith, n.if-k-eq0.false)) (sym n.nth.ensures ∙ e.in-Body.is) c.if-standing-to.false
+    oldest-ends _ _ _ j h (omega (arith, n.if-k-eq0.false)) (sym n.nth.ensures ∙ e.in-Some.is) c.if-standing-to.false

@@ -19,34 +19,34 @@ pub overflow_sub-from : goal.overflow_sub-from
 overflow_sub-from c =
     let n = c in
     let e = some-there _ n.requires in
-    let f = person-found _ _ e.0 e.1 (sym n.nth.ensures ∙ c.in-Body.is) in
+    let f = person-found _ _ e.0 e.1 (sym n.nth.ensures ∙ c.in-Some.is) in
     omega (arith, (kind-inside f).0)
 
-pub number2-requires : goal.number2-requires
-number2-requires c =
+pub number-requires : goal.number-requires
+number-requires c =
     let n = c in
     let e = some-there _ n.requires in
-    let f = person-found _ _ e.0 e.1 (sym n.nth.ensures ∙ c.in-Body.is) in
-    (kind-inside f).1
+    let f = person-found _ _ e.0 e.1 (sym n.nth.ensures ∙ c.in-Some.is) in
+    ((kind-inside f).1, omega arith)
 
-pub number2-requires-then-number2-eq4 : goal.number2-requires-then-number2-eq4
-number2-requires-then-number2-eq4 c =
+pub number-requires-then-number-eq4 : goal.number-requires-then-number-eq4
+number-requires-then-number-eq4 c =
     let k = c in
     let n = k in
     let e = some-there _ n.requires in
-    let f = person-found _ _ e.0 e.1 (sym n.nth.ensures ∙ k.in-Body.is) in
-    omega (arith, person-inside f (sym (kind-there f) ∙ sym k.number2.ensures ∙ c.if-number2-eq4.true), f.stands.inside)
+    let f = person-found _ _ e.0 e.1 (sym n.nth.ensures ∙ k.in-Some.is) in
+    (omega (arith, person-inside f (sym (kind-there f) ∙ sym k.number.ensures.0 ∙ c.if-number-eq4.true), f.stands.inside), omega arith)
 
-pub returns-then-number2-eq4 : goal.returns-then-number2-eq4
-returns-then-number2-eq4 c es e =
+pub returns-then-number-eq4 : goal.returns-then-number-eq4
+returns-then-number-eq4 c es e =
     let k = c in
     let n = k in
-    let f = person-found _ _ es e (sym n.nth.ensures ∙ k.in-Body.is) in
-    ap Ok c.number2-then-number2-eq4.ensures ∙ person-four f (sym (kind-there f) ∙ sym k.number2.ensures ∙ c.if-number2-eq4.true)
+    let f = person-found _ _ es e (sym n.nth.ensures ∙ k.in-Some.is) in
+    ap Ok c.number-then-number-eq4.ensures.0 ∙ person-four f (sym (kind-there f) ∙ sym k.number.ensures.0 ∙ c.if-number-eq4.true)
 
 pub returns : goal.returns
 returns c es e =
     let k = c in
     let n = k in
-    let f = person-found _ _ es e (sym n.nth.ensures ∙ k.in-Body.is) in
-    person-other f (λ z. c.if-number2-eq4.false (k.number2.ensures ∙ kind-there f ∙ z))
+    let f = person-found _ _ es e (sym n.nth.ensures ∙ k.in-Some.is) in
+    person-other f (λ z. c.if-number-eq4.false (k.number.ensures.0 ∙ kind-there f ∙ z))

@@ -7,4 +7,4 @@ pub returns : goal.returns
 returns c =
     let p = c in
     let a = p.args in
-    over-tail a.out.now a.at (little_endian 4 a.n) p.put4.ensures
+    over-tail a.out.now a.at (little_endian 4 a.n) p.put_number.ensures

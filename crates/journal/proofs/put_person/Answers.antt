@@ -7,4 +7,4 @@ returns c =
     let p = c in
     let h = p in
     let s = h in
-    person-written s.args.out.now h.put_head.new.out _ s.args.at s.args.size s.args.person s.requires h.put_head.ensures p.put2.ensures
+    person-written s.args.out.now h.put_head.new.out _ s.args.at s.args.size s.args.person s.requires h.put_head.ensures (rw p.from.ensures at p.put_number.ensures)

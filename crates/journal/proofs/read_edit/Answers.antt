@@ -12,35 +12,35 @@ returns-in_default c = (omega arith, no-edit _ _ (front-damaged _ _ (sym c.read.
 pub read_parts-requires : goal.read_parts-requires
 read_parts-requires c =
     let k = c in
-    let r = front-record _ _ (sym k.read.ensures ∙ k.in-Record.is) in
+    let r = front-record _ _ (sym k.read.ensures ∙ k.in-Some.is) in
     (r.head-inside, r.inside)
 
 pub returns-then-kind-eq1 : goal.returns-then-kind-eq1
 returns-then-kind-eq1 c =
     let k = c in
-    let r = front-record _ _ (sym k.read.ensures ∙ k.in-Record.is) in
+    let r = front-record _ _ (sym k.read.ensures ∙ k.in-Some.is) in
     reads-by r NoPerson _ (edit-bare r c.if-kind-eq1.true) (omega arith) c.read_parts.result c.read_parts.ensures
 
 pub returns-then-kind-ne4 : goal.returns-then-kind-ne4
 returns-then-kind-ne4 c =
     let k = c in
-    let r = front-record _ _ (sym k.read.ensures ∙ k.in-Record.is) in
+    let r = front-record _ _ (sym k.read.ensures ∙ k.in-Some.is) in
     (omega arith, edit-other r c.if-kind-eq1.false c.if-kind-ne4.true)
 
 pub returns-then-end-at : goal.returns-then-end-at
 returns-then-end-at c =
     let k = c in
-    let r = front-record _ _ (sym k.read.ensures ∙ k.in-Record.is) in
+    let r = front-record _ _ (sym k.read.ensures ∙ k.in-Some.is) in
     (omega arith, edit-stub r c.if-kind-ne4.false c.if-end-at.true)
 
 pub read_parts-requires-2 : goal.read_parts-requires-2
 read_parts-requires-2 c =
     let k = c in
-    let r = front-record _ _ (sym k.read.ensures ∙ k.in-Record.is) in
+    let r = front-record _ _ (sym k.read.ensures ∙ k.in-Some.is) in
     (c.if-end-at.false, r.inside)
 
 pub returns : goal.returns
 returns c =
     let k = c in
-    let r = front-record _ _ (sym k.read.ensures ∙ k.in-Record.is) in
+    let r = front-record _ _ (sym k.read.ensures ∙ k.in-Some.is) in
     reads-by r (Person _) _ (edit-person r c.if-kind-ne4.false c.if-end-at.false) (omega arith) c.read_parts-2.result c.read_parts-2.ensures

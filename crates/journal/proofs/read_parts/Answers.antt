@@ -13,11 +13,11 @@ pub returns-then-size-old : goal.returns-then-size-old
 returns-then-size-old c =
     let n = c in
     let s = n in
-    bytes-unlike _ _ _ s.requires.0 s.requires.1 (omega arith) n.number4-old.ensures.0 n.number4-new.ensures.0 c.if-size-old.true
+    bytes-unlike _ _ _ s.requires.0 s.requires.1 (omega arith) n.number-old.ensures.0 n.number-new.ensures.0 c.if-size-old.true
 
 pub returns : goal.returns
 returns c =
     let n = c in
     let s = n in
-    let e = bytes_read _ _ _ s.requires.0 s.requires.1 (omega arith) n.number4-old.ensures.0 n.number4-new.ensures.0 c.if-size-old.false c.number4-place.ensures.0 in
+    let e = bytes_read _ _ _ s.requires.0 s.requires.1 (omega arith) n.number-old.ensures.0 n.number-new.ensures.0 c.if-size-old.false c.number-place.ensures.0 in
     (refl, refl, e, refl, omega arith, omega arith)

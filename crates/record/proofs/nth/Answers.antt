@@ -5,26 +5,20 @@ use Rattle.record.proofs.Place.{front-damaged, front-record}
 use Rattle.record.proofs.Seek.{seek-begin, seek-damaged, seek-here, seek-next, seek-done}
 use Rattle.record.proofs.nth.Goals as goal
 
-pub returns-in_default : goal.returns-in_default
-returns-in_default c =
-    let t = c in
-    seek-damaged t.loop-at.invariant t.loop-at-test.true (front-damaged _ _ (sym c.read.ensures ∙ c.in_default.is))
+pub returns-in_err-front : goal.returns-in_err-front
+returns-in_err-front c =
+    c.from_residual.ensures ∙ seek-damaged c.loop-at.invariant c.loop-at-test.true (front-damaged _ _ (sym c.read.ensures ∙ c.in_err-front.was))
 
 pub returns-then-left-eq0 : goal.returns-then-left-eq0
 returns-then-left-eq0 c =
-    let k = c in
-    seek-here k.loop-at.invariant (front-record _ _ (sym k.read.ensures ∙ k.in-Record.is)) c.if-left-eq0.true
+    seek-here c.loop-at.invariant (front-record _ _ (sym c.read.ensures ∙ c.in_ok-front.was)) c.if-left-eq0.true
 
 pub loop-at-smaller : goal.loop-at-smaller
-loop-at-smaller c =
-    let k = c in
-    let r = front-record _ _ (sym k.read.ensures ∙ k.in-Record.is) in
-    omega arith
+loop-at-smaller c = let r = front-record _ _ (sym c.read.ensures ∙ c.in_ok-front.was) in omega arith
 
 pub loop-at-preserved : goal.loop-at-preserved
 loop-at-preserved c =
-    let k = c in
-    seek-next k.loop-at.invariant (front-record _ _ (sym k.read.ensures ∙ k.in-Record.is)) c.if-left-eq0.false
+    seek-next c.loop-at.invariant (front-record _ _ (sym c.read.ensures ∙ c.in_ok-front.was)) c.if-left-eq0.false
 
 pub loop-at-init : goal.loop-at-init
 loop-at-init c = seek-begin _ c.requires

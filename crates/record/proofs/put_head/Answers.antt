@@ -4,6 +4,5 @@ use Rattle.record.proofs.put_head.Goals as goal
 
 pub returns : goal.returns
 returns c =
-    let p = c in
-    let a = p in
-    head-written a.args.out.now p.put4.new.out _ a.args.size a.args.kind a.requires p.put4.ensures c.put2.ensures
+    let a = c.args in
+    head-written a.out.now c.put_number.new.out _ a.size a.kind c.requires c.put_number.ensures (rw c.from.ensures at c.put_number-2.ensures)

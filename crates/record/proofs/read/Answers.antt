@@ -7,16 +7,16 @@ use Rattle.record.proofs.read.Goals as goal
 pub returns : goal.returns
 returns c =
     record-there _ _ (whole-if _ (simp length-drop (omega arith)) (omega arith) (simp length-drop (omega arith)))
-    c.number2-kind.ensures (omega arith)
+    c.number-kind.ensures.0 (omega arith)
 
 pub returns-then-s-at : goal.returns-then-s-at
 returns-then-s-at c = damaged-at _ _ (no-head _ (simp length-drop (omega arith)))
 
-pub returns-then-s-at-lt6 : goal.returns-then-s-at-lt6
-returns-then-s-at-lt6 c = damaged-at _ _ (no-head _ (simp length-drop (omega arith)))
+pub returns-then-s-at-lt-HEAD : goal.returns-then-s-at-lt-HEAD
+returns-then-s-at-lt-HEAD c = damaged-at _ _ (no-head _ (simp length-drop (omega arith)))
 
-pub returns-then-size-lt6 : goal.returns-then-size-lt6
-returns-then-size-lt6 c = damaged-at _ _ (no_length _ (omega arith))
+pub returns-then-size-lt-HEAD : goal.returns-then-size-lt-HEAD
+returns-then-size-lt-HEAD c = damaged-at _ _ (no_length _ (omega arith))
 
 pub returns-then-s-at-2 : goal.returns-then-s-at-2
 returns-then-s-at-2 c = damaged-at _ _ (no_bytes _ (simp length-drop (omega arith)))

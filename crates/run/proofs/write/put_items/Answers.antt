@@ -12,34 +12,34 @@ pub returns-in_default : goal.returns-in_default
 returns-in_default c = items-damaged c.loop-from.invariant.0 c.loop-from-test.true (front-damaged _ _ (sym c.read.ensures ∙ c.in_default.is))
 
 pub overflow_add-body : goal.overflow_add-body
-overflow_add-body c = let r = front-record _ _ (sym c.read.ensures ∙ c.in-Record.is) in omega arith
+overflow_add-body c = let r = front-record _ _ (sym c.read.ensures ∙ c.in-Some.is) in omega arith
 
 pub slice_bounds-put_argument-count-in-loop-from : goal.slice_bounds-put_argument-count-in-loop-from
-slice_bounds-put_argument-count-in-loop-from c = let r = front-record _ _ (sym c.read.ensures ∙ c.in-Record.is) in r.head-inside
+slice_bounds-put_argument-count-in-loop-from c = let r = front-record _ _ (sym c.read.ensures ∙ c.in-Some.is) in r.head-inside
 
 pub slice_bounds-put_argument-start-in-loop-from : goal.slice_bounds-put_argument-start-in-loop-from
-slice_bounds-put_argument-start-in-loop-from c = let r = front-record _ _ (sym c.read.ensures ∙ c.in-Record.is) in r.head-inside
+slice_bounds-put_argument-start-in-loop-from c = let r = front-record _ _ (sym c.read.ensures ∙ c.in-Some.is) in r.head-inside
 
 pub slice_bounds-put_argument-end-in-loop-from : goal.slice_bounds-put_argument-end-in-loop-from
-slice_bounds-put_argument-end-in-loop-from c = let r = front-record _ _ (sym c.read.ensures ∙ c.in-Record.is) in r.inside
+slice_bounds-put_argument-end-in-loop-from c = let r = front-record _ _ (sym c.read.ensures ∙ c.in-Some.is) in r.inside
 
 pub put_argument-at-requires : goal.put_argument-at-requires
 put_argument-at-requires c =
-    items-room c.loop-from.invariant.0 c.loop-from.invariant.1 (front-record _ _ (sym c.read.ensures ∙ c.in-Record.is))
+    items-room c.loop-from.invariant.0 c.loop-from.invariant.1 (front-record _ _ (sym c.read.ensures ∙ c.in-Some.is))
 
 pub loop-from-preserved : goal.loop-from-preserved
 loop-from-preserved c =
-    let r = front-record _ _ (sym c.read.ensures ∙ c.in-Record.is) in
+    let r = front-record _ _ (sym c.read.ensures ∙ c.in-Some.is) in
     (items-next c.loop-from.invariant.0 r, items-filled c.loop-from.invariant.0 c.loop-from.invariant.1 r c.put_argument-at.ensures)
 
 pub overflow_add-at : goal.overflow_add-at
 overflow_add-at c =
-    let r = front-record _ _ (sym c.read.ensures ∙ c.in-Record.is) in
+    let r = front-record _ _ (sym c.read.ensures ∙ c.in-Some.is) in
     omega (arith, (items-filled c.loop-from.invariant.0 c.loop-from.invariant.1 r c.put_argument-at.ensures).fill.inside)
 
 pub loop-from-smaller : goal.loop-from-smaller
 loop-from-smaller c =
-    let r = front-record _ _ (sym c.read.ensures ∙ c.in-Record.is) in omega arith
+    let r = front-record _ _ (sym c.read.ensures ∙ c.in-Some.is) in omega arith
 
 pub returns : goal.returns
 returns c = items-end c.args.list.now c.loop-from.from c.loop-from.invariant.1 c.loop-from-test.false
