@@ -8,8 +8,8 @@ use Rattle.fault.specs.Table.{number_of, place_of}
 use Rattle.fault.specs.Answer.{Answer, then, at_exit}
 use Rattle.entry.specs.Lookup.{Extent}
 use Rattle.journal.specs.Lent.{Lent, lent, forget, Forgets}
-use Rattle.journal.specs.declared.Forgot.TheVariants as forgot
-use Rattle.edit.specs.Calls.{State, answered, Made, numbers_of}
+use Rattle.journal.specs.declared.Forgot.{Forgot}
+use Rattle.edit.specs.Calls.{State, Made, numbers_of}
 use Rattle.edit.specs.declared.Edited.{Edited}
 use Rattle.batch.specs.Batch as batch
 use Rattle.batch.specs.Batch.{Batch}
@@ -62,8 +62,8 @@ standing-told : (s : State) (a : Answer State) → written_in (λ n. n.standing)
 standing-told s (Ok t) = refl
 standing-told s (Err f) = refl
 
-pub called : {s : State} {a : Answer State} {e : Edited} {code place byte size used standing : ℕ} {file journal : List ℕ} → Made s a e file journal
-    → ReturnedNumbers (answered e) code place byte s.size size s.used used s.standing standing → Called s a code place byte size used standing file journal
+pub called : {s : State} {a : Answer State} {e : Answer Edited} {code place byte size used standing : ℕ} {file journal : List ℕ} → Made s a e file journal
+    → ReturnedNumbers e code place byte s.size size s.used used s.standing standing → Called s a code place byte size used standing file journal
 called {s} {a} {e} {code} {place} {byte} {size} {used} {standing} m t =
     let n : ReturnedNumbers (then numbers_of a) code place byte s.size size s.used used s.standing standing = rw m.answer at t in
     record {
@@ -85,10 +85,10 @@ called_batch {file = file} {journal = journal} m t = rw m.is at (t file journal)
 -- ---- forgetting
 
 module _ {s : Lent} {k : ℕ} {journal : List ℕ} where
-  pub forgot-done : {used standing : ℕ} → Forgets s k (forgot.Done used standing) journal → CalledOnJournal s (forget s k) 0 0 (lent journal used standing)
+  pub forgot-done : {n : Forgot} → Forgets s k (Ok n) journal → CalledOnJournal s (forget s k) 0 0 (lent journal n.used n.standing)
   forgot-done m = rw (← m.answer) (record { returned = record { code_is = refl; place_is = refl; byte_is = refl }; left = refl })
 
-  pub forgot-refused : {f : Fault} {code place : ℕ} → Forgets s k (forgot.Refused f) journal → code ≡ number_of f → place ≡ place_of f
+  pub forgot-refused : {f : Fault} {code place : ℕ} → Forgets s k (Err f) journal → code ≡ number_of f → place ≡ place_of f
       → CalledOnJournal s (forget s k) code place (lent journal s.used s.standing)
   forgot-refused m c p =
       let e = m.answer in

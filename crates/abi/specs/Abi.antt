@@ -5,7 +5,8 @@ use Rattle.fault.specs.Table.{number_of, place_of, byte_of}
 use Rattle.fault.specs.Answer.{Answer, unless, at_exit}
 use Rattle.entry.specs.Lookup.{Extent}
 use Rattle.journal.specs.Lent.{Lent}
-use Rattle.edit.specs.Calls.{State, Numbers, lent}
+use Rattle.edit.specs.declared.Edited.{Edited}
+use Rattle.edit.specs.Calls.{State, lent}
 use Rattle.batch.specs.Batch.{Batch}
 
 -- the number of the C interface, raised whenever a call is new or its signature changes
@@ -70,7 +71,7 @@ pub record CalledOnJournal (s : Lent) (a : Answer Lent) (code place : ℕ) (t : 
   pub left : t ≡ at_exit s a
 
 -- the three numbers by what the call answered
-pub record ReturnedNumbers (a : Answer Numbers) (code place byte size₀ size used₀ used standing₀ standing : ℕ) : Type 0 where
+pub record ReturnedNumbers (a : Answer Edited) (code place byte size₀ size used₀ used standing₀ standing : ℕ) : Type 0 where
   pub returned : Returned a code place byte
   pub size_is : size ≡ written_in (λ n. n.size) a size₀
   pub used_is : used ≡ written_in (λ n. n.used) a used₀

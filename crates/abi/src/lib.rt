@@ -5,16 +5,13 @@ ghost use Rattle.std.specs.Prelude.{◌≡◌, ℕ, List};
 ghost use Rattle.fault.specs.Table.{number_of, place_of, byte_of};
 ghost use Rattle.wellformed.specs.Check as check;
 ghost use Rattle.entry.specs.Lookup as lookup;
-ghost use Rattle.edit.specs.Calls as edit;
 ghost use Rattle.batch.specs.Batch as batch;
-ghost use Rattle.journal.specs.Lent as journal;
 ghost use Rattle.abi.specs.Abi.{Returned, ReturnedNumber, ReturnedEnds, ReturnedNumbers, CalledBatch};
 
 use batch::Batched;
 use edit::Edited;
 use entry::Ends;
 use fault::Fault;
-use journal::Named;
 use wellformed::Checked;
 
 // A refusal, as it is told.
@@ -79,30 +76,26 @@ pub fn tell_written(
 
 // The answer of a call that edits.
 pub fn tell_edited(
-    e: Edited,
+    e: Result<Edited, Fault>,
     size: &mut u64,
     used: &mut u64,
     standing: &mut u64,
     place: &mut u64,
     byte: &mut u64,
 ) -> u32
-    ensures { ReturnedNumbers (edit.answered e) result place.new byte.new size.old size.new used.old used.new
+    ensures { ReturnedNumbers e result place.new byte.new size.old size.new used.old used.new
         standing.old standing.new }
 {
     match e {
-        Edited::Done {
-            size: length,
-            used: u,
-            standing: n,
-        } => {
+        Ok(edited) => {
             *place = 0;
             *byte = 0;
-            *size = length as u64;
-            *used = u as u64;
-            *standing = n as u64;
+            *size = edited.size as u64;
+            *used = edited.used as u64;
+            *standing = edited.standing as u64;
             0
         }
-        Edited::Refused(f) => refuse(f, place, byte),
+        Err(fault) => refuse(fault, place, byte),
     }
 }
 
@@ -119,48 +112,31 @@ pub fn tell_batched(
     ensures { (file journal : List ℕ) → CalledBatch (batch.batch_of b file journal) result place.new byte.new done.new
         size.new used.new standing.new file journal }
 {
-    match b {
-        Batched::All {
-            done: d,
-            size: length,
-            used: u,
-            standing: n,
-        } => {
-            *done = d as u64;
-            *size = length as u64;
-            *used = u as u64;
-            *standing = n as u64;
+    *done = b.done as u64;
+    *size = b.left.size as u64;
+    *used = b.left.used as u64;
+    *standing = b.left.standing as u64;
+    match b.stopped {
+        None => {
             *place = 0;
             *byte = 0;
             0
         }
-        Batched::Stopped {
-            fault,
-            done: before,
-            size: length,
-            used: u,
-            standing: n,
-        } => {
-            *done = before as u64;
-            *size = length as u64;
-            *used = u as u64;
-            *standing = n as u64;
-            refuse(fault, place, byte)
-        }
+        Some(f) => refuse(f, place, byte),
     }
 }
 
 // The answer of the call for a person.
-pub fn tell_named(n: Named, place: &mut u64, byte: &mut u64, person: &mut u16) -> u32
-    ensures { ReturnedNumber (journal.answered n) result place.new byte.new person.old person.new }
+pub fn tell_named(p: Result<u16, Fault>, place: &mut u64, byte: &mut u64, person: &mut u16) -> u32
+    ensures { ReturnedNumber p result place.new byte.new person.old person.new }
 {
-    match n {
-        Named::Person(p) => {
+    match p {
+        Ok(number) => {
             *place = 0;
             *byte = 0;
-            *person = p;
+            *person = number;
             0
         }
-        Named::Refused(f) => refuse(f, place, byte),
+        Err(f) => refuse(f, place, byte),
     }
 }

@@ -22,7 +22,6 @@ use Rattle.edit.specs.Calls.{State, opened, request, lent}
 use Rattle.edit.specs.Step.{passed}
 use Rattle.edit.specs.Calls as edit
 use Rattle.edit.specs.declared.Edited.{Edited}
-use Rattle.edit.specs.declared.Edited.TheVariants as edited
 use Rattle.edit.proofs.Applying.{was-opened, made-done, made-refused}
 use Rattle.edit.proofs.Requested.{request-stands}
 use Rattle.batch.specs.Batch.{request_of, listed, Batch, nothing, after, in_turn, begun, batch}
@@ -115,7 +114,7 @@ module _ {s : State} {author : Author} {list : List ℕ} {at n : ℕ} {t : State
             let x = mapped (λ xs. a ∷ xs) (read_records read_request (drop end list)) (rw (← r.ends) at (sym z ∙ w.reads)) in
             record { asked = a; reads_here = e; others = x.0; left_is = sym x.2; reads-others = x.1 }
 
-    module _ {e : Edited} {file journal : List ℕ} (m : MadeOf kind (part (at + 6) end list) author t.file t.size t.journal t.standing e file journal) where
+    module _ {e : Answer Edited} {file journal : List ℕ} (m : MadeOf kind (part (at + 6) end list) author t.file t.size t.journal t.standing e file journal) where
       -- it is made as the single call would make it
       single : edit.Made t (request t (by author (request_of here.asked))) e file journal
       single = was-opened t (by author (request_of here.asked)) (rw w.opens) (m here.asked here.reads_here)
@@ -125,7 +124,7 @@ module _ {s : State} {author : Author} {list : List ℕ} {at n : ℕ} {t : State
       turn = w.same ∙ ap (λ (xs : List Asked). behind n (in_turn author (map request_of xs) t)) here.left_is
 
     pub run-stopped : {f : Fault} {file journal : List ℕ}
-        → MadeOf kind (part (at + 6) end list) author t.file t.size t.journal t.standing (edited.Refused f) file journal
+        → MadeOf kind (part (at + 6) end list) author t.file t.size t.journal t.standing (Err f) file journal
         → record { done = n; stopped = Some f; state = lent file t.size journal t.used t.standing } ≡ batch s author list
     run-stopped {f} {file} {journal} m =
         let x = made-refused (single m) in
@@ -135,11 +134,11 @@ module _ {s : State} {author : Author} {list : List ℕ} {at n : ℕ} {t : State
         λ i. record { done = k i; stopped = Some f; state = lent (x.1 i) t.size (x.2 i) t.used t.standing } in
         z ∙ sym (turn m ∙ y)
 
-    pub run-next : person_of author < 65536 → {size used standing : ℕ} {file journal : List ℕ}
-        → MadeOf kind (part (at + 6) end list) author t.file t.size t.journal t.standing (edited.Done size used standing) file journal
-        → Running s author list end (n + 1) (lent file size journal used standing)
-    run-next p {size} {used} {standing} {file} {journal} m =
-        let u : State = lent file size journal used standing in
+    pub run-next : person_of author < 65536 → {next : Edited} {file journal : List ℕ}
+        → MadeOf kind (part (at + 6) end list) author t.file t.size t.journal t.standing (Ok next) file journal
+        → Running s author list end (n + 1) (lent file next.size journal next.used next.standing)
+    run-next p {next} {file} {journal} m =
+        let u : State = lent file next.size journal next.used next.standing in
         let x = made-done (single m) in
         let o = request-stands t u (by author (request_of here.asked)) w.journal p w.opens x in
         let rest : Batch = in_turn author (map request_of here.others) u in

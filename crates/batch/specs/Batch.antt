@@ -9,7 +9,6 @@ use Rattle.change.specs.Change.{Request, Set, Remove}
 use Rattle.journal.specs.Journal.{Author, by}
 use Rattle.edit.specs.Calls.{State, opened, request, lent}
 use Rattle.batch.specs.declared.Batched.{Batched}
-use Rattle.batch.specs.declared.Batched.TheVariants as batched
 
 -- a set where there is a text, else a remove
 abbrev pub request_of : Asked → Request
@@ -57,8 +56,7 @@ batch s author list = begun s author (listed s list)
 
 -- what an answer says, with what both buffers hold then
 abbrev pub batch_of : Batched → List ℕ → List ℕ → Batch
-batch_of (batched.All done size used standing) file journal = record { done = done; stopped = None; state = lent file size journal used standing }
-batch_of (batched.Stopped fault done size used standing) file journal = record { done = done; stopped = Some fault; state = lent file size journal used standing }
+batch_of r file journal = record { done = r.done; stopped = r.stopped; state = lent file r.left.size journal r.left.used r.left.standing }
 
 -- a call that answers so and leaves these bytes in both buffers
 pub record Made (b : Batch) (r : Batched) (file journal : List ℕ) : Type 0 where

@@ -17,23 +17,12 @@ use record::{Front, HEAD};
 use requests::Fields;
 use wellformed::Checked;
 
-// What a batch did: all requests, or those before one that was refused. Either way how many were done, the file's length and the journal's two
-// numbers.
+// What a batch did: how many requests were done, the numbers that they left, and the refusal at which it stopped, if it did.
 #[derive(Clone, Copy)]
-pub enum Batched {
-    All {
-        done: usize,
-        size: usize,
-        used: usize,
-        standing: usize,
-    },
-    Stopped {
-        fault: Fault,
-        done: usize,
-        size: usize,
-        used: usize,
-        standing: usize,
-    },
+pub struct Batched {
+    pub done: usize,
+    pub left: Edited,
+    pub stopped: Option<Fault>,
 }
 
 // The request in a record, where file and journal were opened before.
@@ -45,13 +34,13 @@ fn make(
     person: u16,
     kind: u16,
     body: &[u8],
-) -> Edited
+) -> Result<Edited, Fault>
     requires { Ready file.old size standing }
     ensures { MadeOf kind body.now (Person person) file.old size journal.old standing result file.new journal.new }
 {
     let end = body.len();
     match requests::read(kind, body) {
-        Fields::Damaged => Edited::Refused(Fault::Damaged),
+        Fields::Damaged => Err(Fault::Damaged),
         Fields::Two { group } => {
             let from = group + 4;
             edit::carry_out(
@@ -100,48 +89,40 @@ fn run(
 {
     let mut at: usize = 0;
     let mut done: usize = 0;
-    let mut length = size;
-    let mut u = used;
-    let mut n = standing;
+    let mut left = Edited {
+        size,
+        used,
+        standing,
+    };
     while at < list.len() {
         let Some(Front { kind, end }) = record::read(list, at) else {
-            return Batched::Stopped {
-                fault: Fault::Damaged,
+            return Batched {
                 done,
-                size: length,
-                used: u,
-                standing: n,
+                left,
+                stopped: Some(Fault::Damaged),
             };
         };
         let from = at + HEAD;
-        match make(file, length, journal, n, person, kind, &list[from..end]) {
-            Edited::Refused(fault) => {
-                return Batched::Stopped {
-                    fault,
+        let body = &list[from..end];
+        match make(file, left.size, journal, left.standing, person, kind, body) {
+            Err(fault) => {
+                return Batched {
                     done,
-                    size: length,
-                    used: u,
-                    standing: n,
+                    left,
+                    stopped: Some(fault),
                 };
             }
-            Edited::Done {
-                size: length1,
-                used: u1,
-                standing: n1,
-            } => {
+            Ok(next) => {
                 at = end;
                 done += 1;
-                length = length1;
-                u = u1;
-                n = n1;
+                left = next;
             }
         }
     }
-    Batched::All {
+    Batched {
         done,
-        size: length,
-        used: u,
-        standing: n,
+        left,
+        stopped: None,
     }
 }
 
@@ -158,24 +139,25 @@ pub fn batch(
 ) -> Batched
     ensures { spec.Made (spec.batch (lent file.old size journal.old used standing) (Person person) list.now) result file.new journal.new }
 {
+    let left = Edited {
+        size,
+        used,
+        standing,
+    };
     match edit::check_lent(file, size, journal, used, standing) {
-        Checked::Refused(fault) => Batched::Stopped {
-            fault,
+        Checked::Refused(fault) => Batched {
             done: 0,
-            size,
-            used,
-            standing,
+            left,
+            stopped: Some(fault),
         },
         Checked::Sound => {
             if requests::sound(list) {
                 return run(file, size, journal, used, standing, person, list);
             }
-            Batched::Stopped {
-                fault: Fault::Damaged,
+            Batched {
                 done: 0,
-                size,
-                used,
-                standing,
+                left,
+                stopped: Some(Fault::Damaged),
             }
         }
     }

@@ -1,5 +1,5 @@
 -- What a set or a remove changes, by what was found in the file. Assumes nothing.
-use Rattle.std.specs.Prelude.{Option, Some, None}
+use Rattle.std.specs.Prelude.{Option, Some, None, Ok, Err, ok_or}
 use mathlib.Core.Path.{◌≡◌, refl, sym, ap, ◌∙◌}
 use Prim.Native.Nat.{ℕ, ◌+◌, ◌-◌, ◌≤◌, ◌<◌}
 use native.Mathlib.Omega.{arith}
@@ -14,7 +14,9 @@ use Rattle.base.proofs.Span.{span-le}
 use Rattle.base.specs.Choice.{there}
 use Rattle.base.proofs.Search.{there-first, any_none, there-last}
 use Rattle.base.proofs.Tests.{no, by-test, some-there, none-there}
+use Rattle.fault.specs.declared.Fault.{Fault}
 use Rattle.fault.specs.declared.Fault.TheVariants.{NoPlainKey, Missing, PostfixesRemain}
+use Rattle.fault.specs.Answer.{Answer}
 use Rattle.characters.specs.Class.{key_byte}
 use Rattle.line.specs.Form.{group_form, key_form}
 use Rattle.rows.specs.Rows.{Row, rows, line_of, ended, read_rows, raw_value}
@@ -30,9 +32,9 @@ use Rattle.splice.specs.Edit.{Edit}
 use Rattle.splice.proofs.Splits.{Splits, splits-old, splits-length}
 use Rattle.change.specs.Change.{is_plain, of_group, postfix_of, inserting, removing, set_edit, remove_edit}
 use Rattle.change.specs.Target.{Aims, slot_of}
+use Rattle.change.specs.declared.Slot.{Slot}
 use Rattle.change.specs.declared.Target.{Target}
 use Rattle.change.specs.declared.Target.TheVariants as target
-use Rattle.change.specs.declared.Slot.TheVariants as slot
 use Rattle.change.proofs.Accepted.{LastRow, last-joined, full-ended, file-split, insert_edit, splits-insert, splits-ended, splits_last, removing-is, row_before, end_row}
 use Rattle.change.proofs.Passing.{fronts}
 
@@ -69,11 +71,11 @@ module _ (key : List ℕ) {n : ℕ} (q : n ≡ 0 + span key_byte (drop 0 key)) w
 -- ---- what was found
 
 -- the row behind a slot
-slot_row : (o : Option Row) {at : ℕ} {after : Bool} → slot.At at after ≡ slot_of o → (r : Row) × (o ≡ Some r) × (at ≡ r.start + length r.bytes) × (after ≡ ended r.bytes)
+slot_row : (o : Option Row) {t : Slot} → Some t ≡ slot_of o → (r : Row) × (o ≡ Some r) × (t.place ≡ r.start + length r.bytes) × (t.after ≡ ended r.bytes)
 slot_row None e = no (cc)
 slot_row (Some r) e = (r, refl, cc, cc)
 
-slot-none : (o : Option Row) → slot.Nowhere ≡ slot_of o → o ≡ None
+slot-none : (o : Option Row) → None ≡ slot_of o → o ≡ None
 slot-none None e = refl
 slot-none (Some r) e = no (cc)
 
@@ -122,17 +124,17 @@ module _ (file group key : List ℕ) where
   abbrev entry : Option Row
   entry = find_row (read_rows file) (Key group key)
 
-  abbrev SetBy : Target → Type 0
-  SetBy t = Aims file key (set_edit (read_rows file) group key) t
+  abbrev SetBy : Answer Target → Type 0
+  SetBy a = Aims file key (set_edit (read_rows file) group key) a
 
   value-by : (r s : Row) {n start end value : ℕ} → ends ≡ Some s → true ≡ plain file group key → entry ≡ Some r → Told r n start end value → (value ≤ end) × (end ≤ length file)
-      → SetBy (target.Value value end)
+      → SetBy (Ok (target.Value value end))
   unfolding set_edit value_ends raw_value
   value-by r s e p y t b =
       record { is = λ text. rw (e, ← p, y, t.value-is, t.end_is, value-stands file (found-row file (Key group key) r y)); inside = b }
 
   entry-by : (s : Row) {at : ℕ} {after : Bool} → ends ≡ Some s → at ≡ s.start + length s.bytes → after ≡ ended s.bytes → true ≡ plain file group key → entry ≡ None
-      → SetBy (target.Entry at after)
+      → SetBy (Ok (target.Entry at after))
   unfolding set_edit inserting
   entry-by s e i j p y =
       let w = end_row file group s e in
@@ -141,9 +143,10 @@ module _ (file group key : List ℕ) where
         inside = omega (arith, ap (λ (r : Row). r.start + length r.bytes) w.row, splits-length (insert_edit file w.xs w.bytes w.ys w.is []) file (splits-insert file w.xs w.bytes w.ys w.is []));
       }
 
-  pub set-no-group : slot.Nowhere ≡ slot_of ends → SetBy (target.Refused Missing)
+  pub set-no-group : {f : Fault} (o : Option Slot) → ok_or o Missing ≡ Err f → o ≡ slot_of ends → SetBy (Err f)
   unfolding set_edit
-  set-no-group e = record { is = λ text. rw (slot-none ends e); inside = tt }
+  set-no-group {f} None h e = let z : Missing ≡ f = cc in record { is = λ text. rw (slot-none ends e, z); inside = tt }
+  set-no-group (Some t) h e = no (cc)
 
   -- the entry is there, and so is its group
   module _ {n start end value : ℕ} (y : found.Row n start end value ≡ found_of entry) where
@@ -159,11 +162,11 @@ module _ (file group key : List ℕ) where
         let w : there entry ≡ false = there-first (λ r. same_title (Key group key) (title r)) (read_rows file) ∙ z in
         no (cc (ap there a.1)))
 
-    pub value-no-plain : false ≡ plain file group key → SetBy (target.Refused (NoPlainKey 0))
+    pub value-no-plain : false ≡ plain file group key → SetBy (Err (NoPlainKey 0))
     unfolding set_edit
     value-no-plain p = record { is = λ text. rw (group-there.1, ← p); inside = tt }
 
-    pub set_value : true ≡ plain file group key → SetBy (target.Value value end)
+    pub set_value : true ≡ plain file group key → SetBy (Ok (target.Value value end))
     set_value p =
         let a = told-row entry n start end value (sym y) in
         let o = group-there in
@@ -171,12 +174,12 @@ module _ (file group key : List ℕ) where
         value-by a.0 o.0 o.1 p a.1 a.2 (b.1, b.2)
 
   -- the entry is absent
-  module _ {at : ℕ} {after : Bool} (e : slot.At at after ≡ slot_of ends) where
-    pub set-no-plain : false ≡ plain file group key → SetBy (target.Refused (NoPlainKey 0))
+  module _ {t : Slot} (e : Some t ≡ slot_of ends) where
+    pub set-no-plain : false ≡ plain file group key → SetBy (Err (NoPlainKey 0))
     unfolding set_edit
     set-no-plain p = record { is = λ text. rw ((slot_row ends e).1, ← p); inside = tt }
 
-    pub set-entry : true ≡ plain file group key → there entry ≡ false → SetBy (target.Entry at after)
+    pub set-entry : true ≡ plain file group key → there entry ≡ false → SetBy (Ok (target.Entry t.place t.after))
     set-entry p y = let o = slot_row ends e in entry-by o.0 o.1 o.2 o.3 p (none-there entry y)
 
 -- ---- a remove
@@ -185,22 +188,22 @@ module _ (file group key : List ℕ) where
   abbrev postfixes : Bool
   postfixes = any (λ s. postfix_of group key (title s)) (read_rows file)
 
-  abbrev RemoveBy : Target → Type 0
-  RemoveBy t = Aims file key (λ _. remove_edit (read_rows file) group key) t
+  abbrev RemoveBy : Answer Target → Type 0
+  RemoveBy a = Aims file key (λ _. remove_edit (read_rows file) group key) a
 
-  pub remove-missing : found.Nothing ≡ found_of (entry file group key) → RemoveBy (target.Refused Missing)
+  pub remove-missing : found.Nothing ≡ found_of (entry file group key) → RemoveBy (Err Missing)
   unfolding remove_edit
   remove-missing y = record { is = λ text. rw (told-nothing (entry file group key) (sym y)); inside = tt }
 
   module _ {n start end value : ℕ} (y : found.Row n start end value ≡ found_of (entry file group key)) where
-    pub remove-blocked : true ≡ postfixes → RemoveBy (target.Refused PostfixesRemain)
+    pub remove-blocked : true ≡ postfixes → RemoveBy (Err PostfixesRemain)
     unfolding remove_edit
     remove-blocked p = record { is = λ text. rw ((told-row (entry file group key) n start end value (sym y)).1, ← p); inside = tt }
 
     -- none is in the way: the row goes
     module _ (p : false ≡ postfixes) where
       gone-by : (r : Row) → entry file group key ≡ Some r → (place : ℕ) (old : List ℕ) → removing r ≡ record { place = place; old = old; new = [] }
-          → Splits (record { place = place; old = old; new = [] }) file → {from to : ℕ} → from ≡ place → to ≡ place + length old → RemoveBy (target.Line from to)
+          → Splits (record { place = place; old = old; new = [] }) file → {from to : ℕ} → from ≡ place → to ≡ place + length old → RemoveBy (Ok (target.Line from to))
       unfolding remove_edit
       gone-by r f place old z h i j = record { is = λ text. rw (f, ← p, z, old-part h i j, i); inside = old-inside h i j }
 
@@ -218,10 +221,10 @@ module _ (file group key : List ℕ) where
         ends_by = row-end file w.xs w.bytes w.ys w.is
 
         -- it goes with its LF
-        row-gone : end < length file → RemoveBy (target.Line start (end + 1))
+        row-gone : end < length file → RemoveBy (Ok (target.Line start (end + 1)))
         row-gone h = by ends_by
           where
-            by : RowEnd file w.bytes (length (joined w.xs)) → RemoveBy (target.Line start (end + 1))
+            by : RowEnd file w.bytes (length (joined w.xs)) → RemoveBy (Ok (target.Line start (end + 1)))
             by (by-lf e l b) =
                 gone-by r f (length (joined w.xs)) w.bytes (ap removing w.row ∙ removing-is file w.xs w.bytes w.ys w.is w.number (group_end [] w.xs) true e)
                 (splits-ended file w.xs w.bytes w.ys w.is) starts (omega (arith, ends_at))
@@ -235,21 +238,21 @@ module _ (file group key : List ℕ) where
           last-starts : 1 ≤ start
           last-starts = omega (arith, starts, ap length (last-joined w.xs others), length-append (joined others.others ++ others.line) (10 ∷ []))
 
-          last-gone : RemoveBy (target.Line (start - 1) end)
+          last-gone : RemoveBy (Ok (target.Line (start - 1) end))
           last-gone = by ends_by
             where
-              by : RowEnd file w.bytes (length (joined w.xs)) → RemoveBy (target.Line (start - 1) end)
+              by : RowEnd file w.bytes (length (joined w.xs)) → RemoveBy (Ok (target.Line (start - 1) end))
               by (by-lf e l b) = absurd (omega (arith, ends_at))
               by (by_end e l b) =
                   gone-by r f (length (joined w.xs) - 1) (10 ∷ w.bytes) (ap removing w.row ∙ removing-is file w.xs w.bytes w.ys w.is w.number (group_end [] w.xs) false e)
                   (splits_last file w.xs w.bytes w.ys w.is others) (ap (λ (m : ℕ). m - 1) starts) (omega (arith, starts, ends_at, last-starts))
 
-      pub remove-row : end < length file → RemoveBy (target.Line start (end + 1))
+      pub remove-row : end < length file → RemoveBy (Ok (target.Line start (end + 1)))
       remove-row = let a = told-row (entry file group key) n start end value (sym y) in row-gone a.0 a.1 a.2
 
       module _ (h : length file ≤ end) (form : (group_form group && key_form key) ≡ true) where
         pub last-start : 1 ≤ start
         last-start = let a = told-row (entry file group key) n start end value (sym y) in last-starts a.0 a.1 a.2 h form
 
-        pub remove-last : RemoveBy (target.Line (start - 1) end)
+        pub remove-last : RemoveBy (Ok (target.Line (start - 1) end))
         remove-last = let a = told-row (entry file group key) n start end value (sym y) in last-gone a.0 a.1 a.2 h form

@@ -1,5 +1,5 @@
 -- Going through the rows of a file with a group in mind: its last row, and the postfixed keys in it. Assumes nothing.
-use Rattle.std.specs.Prelude.{Some, None}
+use Rattle.std.specs.Prelude.{Option, Some, None}
 use mathlib.Core.Path.{◌≡◌, refl, sym, ap, ◌∙◌}
 use Prim.Native.Nat.{ℕ, ◌+◌, ◌-◌, ◌≤◌, ◌<◌}
 use native.Mathlib.Omega.{arith}
@@ -25,9 +25,8 @@ use Rattle.rows.specs.Find.{line_length}
 use Rattle.rows.proofs.Step.{row_at, group_next, end-le, length-line, line_at, title-at, row_step, Prefix, prefix-start, prefix-end, prefix-rest, prefix-read, prefix-next}
 use Rattle.wellformed.specs.Check.{plain_of}
 use Rattle.change.specs.Change.{of_group, postfix_of}
-use Rattle.change.specs.Target.{slot_of, named, postfix_in}
+use Rattle.change.specs.Target.{slot, slot_of, named, postfix_in}
 use Rattle.change.specs.declared.Slot.{Slot}
-use Rattle.change.specs.declared.Slot.TheVariants.{At, Nowhere}
 
 -- ---- what a line is to a group
 
@@ -97,7 +96,7 @@ module _ {s group : List ℕ} {p : ℕ} {inside : Bool} (w : Passing s group p i
   last-next = rw (prefix-read w.starts h q, last-append (λ r. of_group group (title r)) (read_rows (take p s)) (row ∷ []))
 
   -- where it ends, and whether its LF is there
-  row-ended : (t : Bool) → ltb e (length s) ≡ t → At (p + length (part p (e + 1) s)) (ended (part p (e + 1) s)) ≡ pick t (At (e + 1) true) (At e false)
+  row-ended : (t : Bool) → ltb e (length s) ≡ t → slot (p + length (part p (e + 1) s)) (ended (part p (e + 1) s)) ≡ pick t (slot (e + 1) true) (slot e false)
   unfolding ended
   row-ended true t =
       let k = ltb-true e (length s) t in
@@ -113,24 +112,24 @@ module _ {s group : List ℕ} {p : ℕ} {inside : Bool} (w : Passing s group p i
 -- ---- the group's last row
 
 -- t is where an entry comes in behind the last row of the group before p
-pub record Ending (s group : List ℕ) (p : ℕ) (inside : Bool) (t : Slot) : Type 0 where
+pub record Ending (s group : List ℕ) (p : ℕ) (inside : Bool) (t : Option Slot) : Type 0 where
   pub passing : Passing s group p inside
   pub so_far : t ≡ slot_of (last (λ r. of_group group (title r)) (read_rows (take p s)))
 
-pub ending-start : (s group : List ℕ) {inside : Bool} → inside ≡ same group [] → Ending s group 0 inside Nowhere
+pub ending-start : (s group : List ℕ) {inside : Bool} → inside ≡ same group [] → Ending s group 0 inside None
 unfolding read_rows rows rows_from last
 ending-start s group i = record { passing = passing-start s group i; so_far = refl }
 
-pub ending-end : {s group : List ℕ} {p : ℕ} {inside : Bool} {t : Slot} → Ending s group p inside t → length s ≤ p → t ≡ slot_of (last (λ r. of_group group (title r)) (read_rows s))
+pub ending-end : {s group : List ℕ} {p : ℕ} {inside : Bool} {t : Option Slot} → Ending s group p inside t → length s ≤ p → t ≡ slot_of (last (λ r. of_group group (title r)) (read_rows s))
 ending-end w h = rw (prefix-end w.passing.starts h) w.so_far
 
-module _ {s group : List ℕ} {p : ℕ} {inside : Bool} {t : Slot} (w : Ending s group p inside t) {e : ℕ} (h : p < length s) (q : e ≡ p + line_length (drop p s)) {now : Bool} (i : (g : List ℕ) → inside ≡ same group g → now ≡ same group (group_after g (part p e s) (read_line (part p e s)))) where
+module _ {s group : List ℕ} {p : ℕ} {inside : Bool} {t : Option Slot} (w : Ending s group p inside t) {e : ℕ} (h : p < length s) (q : e ≡ p + line_length (drop p s)) {now : Bool} (i : (g : List ℕ) → inside ≡ same group g → now ≡ same group (group_after g (part p e s) (read_line (part p e s)))) where
   -- the row is the group's
-  pub ending-row : (now && named (read_line (part p e s))) ≡ true → Ending s group (e + 1) now (pick (ltb e (length s)) (At (e + 1) true) (At e false))
+  pub ending-row : (now && named (read_line (part p e s))) ≡ true → Ending s group (e + 1) now (Some (pick (ltb e (length s)) (slot (e + 1) true) (slot e false)))
   ending-row f =
       record {
         passing = passing-next w.passing h q i;
-        so_far = rw (last-next w.passing h q, row_of w.passing h q i, f) (sym (row-ended w.passing h q (ltb e (length s)) refl));
+        so_far = rw (last-next w.passing h q, row_of w.passing h q i, f) (sym (ap Some (row-ended w.passing h q (ltb e (length s)) refl)));
       }
 
   -- it is not

@@ -1,8 +1,7 @@
 -- What the functions of this crate answer, by the definitions of set and remove. Assumes nothing.
-use Rattle.std.specs.Prelude.{ℕ, ◌+◌, ◌≤◌, ◌≡◌, Bool, true, false, not, ◌&&◌, List, [], length, take, eqb, Option, Ok, Err}
-use Rattle.base.specs.Choice.{maybe}
+use Rattle.std.specs.Prelude.{ℕ, ◌+◌, ◌≤◌, ◌≡◌, Bool, true, false, not, ◌&&◌, List, [], length, take, eqb, Option, option_map, IfOk}
 use Rattle.base.specs.Lists.{same, part}
-use Rattle.fault.specs.Answer.{Answer}
+use Rattle.fault.specs.Answer.{Answer, then}
 use Rattle.text.specs.Escape.{raw_text}
 use Rattle.line.specs.declared.Line.{Line}
 use Rattle.line.specs.declared.Line.TheVariants as line
@@ -12,9 +11,8 @@ use Rattle.change.specs.Change.{Request, Set, Remove, entry_bytes, with_lf}
 use Rattle.change.specs.declared.Operation.{Operation}
 use Rattle.change.specs.declared.Operation.TheVariants as op
 use Rattle.change.specs.declared.Target.{Target}
-use Rattle.change.specs.declared.Target.TheVariants.{Value, Entry, Line as Gone, Refused}
+use Rattle.change.specs.declared.Target.TheVariants.{Value, Entry, Line as Gone}
 use Rattle.change.specs.declared.Slot.{Slot}
-use Rattle.change.specs.declared.Slot.TheVariants.{At, Nowhere}
 
 -- the request of an operation; a remove has no text
 abbrev pub request_by : Operation → List ℕ → List ℕ → List ℕ → Request
@@ -26,35 +24,36 @@ abbrev pub new_bytes : List ℕ → List ℕ → Target → List ℕ
 new_bytes key text (Value from to) = raw_text text
 new_bytes key text (Entry at after) = with_lf after (entry_bytes key (raw_text text))
 new_bytes key text (Gone from to) = []
-new_bytes key text (Refused f) = []
 
--- the edit of a file, or the refusal
-abbrev pub edit_by : List ℕ → List ℕ → List ℕ → Target → Answer Edit
-edit_by file key text (Value from to) = Ok (record { place = from; old = part from to file; new = new_bytes key text (Value from to) })
-edit_by file key text (Entry at after) = Ok (record { place = at; old = []; new = new_bytes key text (Entry at after) })
-edit_by file key text (Gone from to) = Ok (record { place = from; old = part from to file; new = [] })
-edit_by file key text (Refused f) = Err f
+-- the edit of a file
+abbrev pub edit_by : List ℕ → List ℕ → List ℕ → Target → Edit
+edit_by file key text (Value from to) = record { place = from; old = part from to file; new = new_bytes key text (Value from to) }
+edit_by file key text (Entry at after) = record { place = at; old = []; new = new_bytes key text (Entry at after) }
+edit_by file key text (Gone from to) = record { place = from; old = part from to file; new = [] }
 
 -- the places lie in a file of this length, in their order
 abbrev pub Inside : ℕ → Target → Type 0
 Inside size (Value from to) = (from ≤ to) × (to ≤ size)
 Inside size (Entry at after) = at ≤ size
 Inside size (Gone from to) = (from ≤ to) × (to ≤ size)
-Inside size (Refused f) = Unit
 
--- a target is a request's edit, whatever the text, and lies inside the file
-pub record Aims (file key : List ℕ) (edit : List ℕ → Answer Edit) (t : Target) : Type 0 where
-  pub is : (text : List ℕ) → edit_by file key text t ≡ edit text
-  pub inside : Inside (length file) t
+-- an answer is a request's edit or refusal, whatever the text, and a target lies inside the file
+pub record Aims (file key : List ℕ) (edit : List ℕ → Answer Edit) (a : Answer Target) : Type 0 where
+  pub is : (text : List ℕ) → then (edit_by file key text) a ≡ edit text
+  pub inside : IfOk a (Inside (length file))
 
--- a target is a request's edit or refusal with one text, and lies inside the file
-pub record Meets (file key text : List ℕ) (edit : Answer Edit) (t : Target) : Type 0 where
-  pub is : edit_by file key text t ≡ edit
-  pub inside : Inside (length file) t
+-- the same with one text
+pub record Meets (file key text : List ℕ) (edit : Answer Edit) (a : Answer Target) : Type 0 where
+  pub is : then (edit_by file key text) a ≡ edit
+  pub inside : IfOk a (Inside (length file))
+
+-- a place for an entry, and whether its LF comes after it
+abbrev pub slot : ℕ → Bool → Slot
+slot place after = record { place = place; after = after }
 
 -- where an entry comes in behind a row
-abbrev pub slot_of : Option Row → Slot
-slot_of o = maybe o Nowhere (λ r. At (r.start + length r.bytes) (ended r.bytes))
+abbrev pub slot_of : Option Row → Option Slot
+slot_of o = option_map (λ r. slot (r.start + length r.bytes) (ended r.bytes)) o
 
 -- a line names something: a header or an entry
 abbrev pub named : Line → Bool

@@ -15,7 +15,6 @@ ghost use Rattle.rows.specs.Find.{none_bad};
 ghost use Rattle.wellformed.specs.Check.{plain_of};
 ghost use Rattle.change.specs.Change as spec;
 ghost use Rattle.change.specs.Target as target;
-ghost use Rattle.change.specs.declared.Slot.TheVariants as slot;
 
 use characters::{Class, Content};
 use fault::Fault;
@@ -38,14 +37,13 @@ pub enum Target {
     Entry { at: usize, after: bool },
     // The row between two places goes, with an LF.
     Line { from: usize, to: usize },
-    Refused(Fault),
 }
 
-// Where an entry comes in behind a group, its LF after it or before it; nowhere without the group.
+// Where an entry comes in, its LF after it, or before it.
 #[derive(Clone, Copy)]
-pub enum Slot {
-    At { place: usize, after: bool },
-    Nowhere,
+pub struct Slot {
+    pub place: usize,
+    pub after: bool,
 }
 
 // Whether the group after a line is this one, when it is known of the group before.
@@ -71,33 +69,33 @@ fn is_of_group(l: &[u8], inside: bool) -> bool
 // The place behind a row, by the end of its line.
 fn behind(file: &[u8], end: usize) -> Slot
     requires { end ≤ length file.now }
-    ensures { result ≡ pick (ltb end (length file.now)) (slot.At (end + 1) true) (slot.At end false) }
+    ensures { result ≡ pick (ltb end (length file.now)) (target.slot (end + 1) true) (target.slot end false) }
 {
     if end < file.len() {
-        return Slot::At {
+        return Slot {
             place: end + 1,
             after: true,
         };
     }
-    Slot::At {
+    Slot {
         place: end,
         after: false,
     }
 }
 
-// The place behind the group's last entry, or its header.
-fn group_end(file: &[u8], group: &[u8]) -> Slot
+// The place behind the group's last entry, or its header; none without the group.
+fn group_end(file: &[u8], group: &[u8]) -> Option<Slot>
     ensures { result ≡ target.slot_of (last (λ r. spec.of_group group.now (title.title r)) (read_rows file.now)) }
 {
     let mut p: usize = 0;
     let mut inside = rows::same(group, b"");
-    let mut t = Slot::Nowhere;
+    let mut t = None;
     while p < file.len() {
         let e = rows::line_end(file, p);
         let l = &file[p..e];
         inside = in_group(l, group, inside);
         if is_of_group(l, inside) {
-            t = behind(file, e);
+            t = Some(behind(file, e));
             p = e + 1;
         } else {
             p = e + 1;
@@ -158,21 +156,19 @@ fn has_plain(file: &[u8], group: &[u8], key: &[u8]) -> bool
 }
 
 // Where a set puts an entry that a file without bad lines does not have: 8, 6.
-fn find_place(file: &[u8], group: &[u8], key: &[u8]) -> Target
+fn find_place(file: &[u8], group: &[u8], key: &[u8]) -> Result<Target, Fault>
     requires { (none_bad file.now ≡ true) × (there (title.find_row (read_rows file.now) (title.Key group.now key.now)) ≡ false) }
     ensures { target.Aims file.now key.now (spec.set_edit (read_rows file.now) group.now key.now) result }
 {
-    let Slot::At { place, after } = group_end(file, group) else {
-        return Target::Refused(Fault::Missing);
-    };
+    let Slot { place, after } = group_end(file, group).ok_or(Fault::Missing)?;
     if has_plain(file, group, key) {
-        return Target::Entry { at: place, after };
+        return Ok(Target::Entry { at: place, after });
     }
-    Target::Refused(Fault::NoPlainKey { line: 0 })
+    Err(Fault::NoPlainKey { line: 0 })
 }
 
 // What a set changes in a file without bad lines: 8, 6. Where the file has the entry of a plain key, no row behind it is read.
-fn find_set(file: &[u8], group: &[u8], key: &[u8]) -> Target
+fn find_set(file: &[u8], group: &[u8], key: &[u8]) -> Result<Target, Fault>
     requires { none_bad file.now ≡ true }
     ensures { target.Aims file.now key.now (spec.set_edit (read_rows file.now) group.now key.now) result }
 {
@@ -186,16 +182,16 @@ fn find_set(file: &[u8], group: &[u8], key: &[u8]) -> Target
         return find_place(file, group, key);
     };
     if has_plain(file, group, key) {
-        return Target::Value {
+        return Ok(Target::Value {
             from: value,
             to: end,
-        };
+        });
     }
-    Target::Refused(Fault::NoPlainKey { line: 0 })
+    Err(Fault::NoPlainKey { line: 0 })
 }
 
 // What a remove changes in a file without bad lines: 8, 17.
-fn find_remove(file: &[u8], group: &[u8], key: &[u8]) -> Target
+fn find_remove(file: &[u8], group: &[u8], key: &[u8]) -> Result<Target, Fault>
     requires { (none_bad file.now ≡ true) × ((group_form group.now && key_form key.now) ≡ true) }
     ensures { target.Aims file.now key.now (λ _. spec.remove_edit (read_rows file.now) group.now key.now) result }
 {
@@ -206,39 +202,45 @@ fn find_remove(file: &[u8], group: &[u8], key: &[u8]) -> Target
         value: _,
     } = rows::find_key(file, group, key)
     else {
-        return Target::Refused(Fault::Missing);
+        return Err(Fault::Missing);
     };
     if has_postfixed(file, group, key) {
-        return Target::Refused(Fault::PostfixesRemain);
+        return Err(Fault::PostfixesRemain);
     }
     if end < file.len() {
-        return Target::Line {
+        return Ok(Target::Line {
             from: start,
             to: end + 1,
-        };
+        });
     }
-    Target::Line {
+    Ok(Target::Line {
         from: start - 1,
         to: end,
-    }
+    })
 }
 
 // What a request asks for in a file without bad lines: 7, 10, 8, 6, 17. A remove looks at no text.
-pub fn find_target(file: &[u8], op: Operation, group: &[u8], key: &[u8], text: &[u8]) -> Target
+pub fn find_target(
+    file: &[u8],
+    op: Operation,
+    group: &[u8],
+    key: &[u8],
+    text: &[u8],
+) -> Result<Target, Fault>
     requires { none_bad file.now ≡ true }
     ensures { target.Meets file.now key.now text.now
         (spec.edit_of file.now (target.request_by op group.now key.now text.now)) result }
 {
     if !line::form::is_group(group) {
-        return Target::Refused(Fault::BadArgument);
+        return Err(Fault::BadArgument);
     }
     if !line::form::is_key(key) {
-        return Target::Refused(Fault::BadArgument);
+        return Err(Fault::BadArgument);
     }
     match op {
         Operation::Remove => find_remove(file, group, key),
         Operation::Set => match characters::utf8::scan(text, Content::Text) {
-            Some(_) => Target::Refused(Fault::UnfitText),
+            Some(_) => Err(Fault::UnfitText),
             None => find_set(file, group, key),
         },
     }
@@ -262,12 +264,11 @@ pub fn new_length(key: &[u8], text: &[u8], t: Target) -> usize
     ensures { result ≡ min (length (target.new_bytes key.now text.now t)) (file_most + 1) }
 {
     match t {
-        Target::Value { from: _, to: _ } => capped(text::escape::raw_length(text)),
-        Target::Entry { at: _, after: _ } => {
+        Target::Value { .. } => capped(text::escape::raw_length(text)),
+        Target::Entry { .. } => {
             capped(capped(key.len()) + capped(text::escape::raw_length(text)) + 2)
         }
-        Target::Line { from: _, to: _ } => 0,
-        Target::Refused(_) => 0,
+        Target::Line { .. } => 0,
     }
 }
 
@@ -309,9 +310,8 @@ pub fn put_new(out: &mut [u8], at: usize, key: &[u8], text: &[u8], t: Target) ->
     ensures { WroteAt out.old at (target.new_bytes key.now text.now t) result out.new }
 {
     match t {
-        Target::Value { from: _, to: _ } => put_raw(out, at, text),
-        Target::Entry { at: _, after } => put_line(out, at, key, text, after),
-        Target::Line { from: _, to: _ } => at,
-        Target::Refused(_) => at,
+        Target::Value { .. } => put_raw(out, at, text),
+        Target::Entry { after, .. } => put_line(out, at, key, text, after),
+        Target::Line { .. } => at,
     }
 }

@@ -16,14 +16,13 @@ use Rattle.journal.specs.Lent as alone
 use Rattle.journal.specs.Lent.{Lent, forget}
 use Rattle.edit.specs.Calls.{State, content, journal_of, Made}
 use Rattle.edit.specs.declared.Edited.{Edited}
-use Rattle.edit.specs.declared.Edited.TheVariants as edited
 use Rattle.edit.proofs.Applying.{made-done, made-refused}
 use Rattle.batch.specs.Batch.{Batch, batch}
 use Rattle.abi.specs.Abi.{code_of, place_in, byte_in, Returned}
 use Rattle.demands.specs.Book.{Call, Do, Undo, Redo, Forget, book_call}
 use Rattle.demands.specs.Demand3.{with_journal, state_call, person_fits, writes_kind, Told, told_of, told, told_over, left_by, start_state, start_book}
 use Rattle.demands.specs.Batches.{each_told, batch_told, InPlaceOf, AsTheCalls, BatchIsCalls}
-use Rattle.demands.specs.ByContracts.{Chain, no_call, one_call, Demand3Of, told_by, after, ByContract, made, forgot, batched, told_in, ByExport, called, forgotten, called_batch, Demand3OfContracts, Demand3OfExports}
+use Rattle.demands.specs.ByContracts.{Chain, no_call, one_call, Demand3Of, after, ByContract, made, forgot, batched, told_in, ByExport, called, forgotten, called_batch, Demand3OfContracts, Demand3OfExports}
 use Rattle.demands.proofs.Agreement.{agrees, start-rep, as-in-the-book}
 use Rattle.demands.proofs.BatchLaws.{single-call, more-calls, batch-is-calls}
 
@@ -57,9 +56,9 @@ module _ (step : State → List Call → List Told → State → Type 0)
 -- ---- the functions of `edit`
 
 -- what a call that met its contract told and left
-as-made : {s : State} {a : Answer State} (r : Edited) {file journal : List ℕ} → Made s a r file journal → (told_by r ≡ told a) × (after s r file journal ≡ at_exit s a)
-as-made {s} (edited.Done x y z) m = let e = sym (made-done m) in (ap told e, ap (at_exit s) e)
-as-made {s} (edited.Refused f) m =
+as-made : {s : State} {a : Answer State} (r : Answer Edited) {file journal : List ℕ} → Made s a r file journal → (told r ≡ told a) × (after s r file journal ≡ at_exit s a)
+as-made {s} (Ok n) m = let e = sym (made-done m) in (ap told e, ap (at_exit s) e)
+as-made {s} (Err f) m =
     let e = made-refused m in
     (ap told (sym e.0), (λ i. record { file = e.1 i; size = s.size; journal = e.2 i; used = s.used; standing = s.standing }) ∙ ap (at_exit s) (sym e.0))
 
@@ -89,7 +88,7 @@ demand3-of-contracts = demand3-of ByContract defined
     defined _ _ _ _ (made {r = r} m) = let w = as-made r m in single-call w.0 w.1
     defined _ _ _ _ (forgot {s} {k} {r} {journal} m) =
         single-call
-        (ap told m.answer ∙ told-then (with_journal s) (forget (journal_of s) k))
+        (told-then (λ n. alone.lent journal n.used n.standing) r ∙ ap told m.answer ∙ told-then (with_journal s) (forget (journal_of s) k))
         (ap (λ (a : Answer Lent). with_journal s (at_exit (alone.lent journal s.used s.standing) a)) m.answer ∙ leaves-forgot s (forget (journal_of s) k) journal m.journal_is)
     defined _ _ _ _ (batched m p) = as-batch (ap batch_told m.is) (ap (λ (b : Batch). b.state) m.is) p
 

@@ -1,22 +1,21 @@
 -- Demand 3 of calls that met their contracts: those of the functions of `edit`, of `journal::forget` and of `batch::batch`, and those of the
 -- functions that a C program calls. They may start from what 01's calls and forgetting left (02, A4, A9 and A10). Assumes nothing.
-use Rattle.std.specs.Prelude.{◌≡◌, ℕ, zero, suc, true, List, [], ◌∷◌, ◌++◌, length}
+use Rattle.std.specs.Prelude.{◌≡◌, ℕ, zero, suc, true, List, [], ◌∷◌, ◌++◌, length, Ok, Err}
 use Rattle.base.specs.Lists.{all}
 use Rattle.wellformed.specs.WellFormed.{well_formed}
-use Rattle.fault.specs.Answer.{at_exit}
+use Rattle.fault.specs.Answer.{Answer, at_exit}
 use Rattle.journal.specs.Journal.{Author}
 use Rattle.journal.specs.Lent as alone
 use Rattle.journal.specs.Lent.{Lent, forget, left_in, Forgets}
 use Rattle.journal.specs.declared.Forgot.{Forgot}
 use Rattle.edit.specs.Calls.{State, journal_of, lent, Made}
 use Rattle.edit.specs.declared.Edited.{Edited}
-use Rattle.edit.specs.declared.Edited.TheVariants as edited
 use Rattle.batch.specs.Batch as many
 use Rattle.batch.specs.Batch.{batch, batch_of}
 use Rattle.batch.specs.declared.Batched.{Batched}
 use Rattle.abi.specs.Abi.{Called, CalledOnJournal, CalledBatch}
 use Rattle.demands.specs.Book.{Call, Forget, Book, book_call}
-use Rattle.demands.specs.Demand3.{with_journal, state_call, person_fits, writes_kind, Told, Accepted, Refused, told_of, told, left_by, start_state, start_book, AsInTheBook}
+use Rattle.demands.specs.Demand3.{with_journal, state_call, person_fits, writes_kind, Told, Accepted, Refused, told, left_by, start_state, start_book, AsInTheBook}
 use Rattle.demands.specs.Batches.{each_told, batch_told, InPlaceOf}
 
 -- Calls in turn on the same buffers: what is lent at first, the calls, what each told, and what is lent at last. `step s cs xs t` says that a call
@@ -34,26 +33,21 @@ Demand3Of step = (start rest journal : List ℕ) (olds calls : List Call) (tolds
     let b : Book = left_by book_call (start_book start (length (start ++ rest)) (length journal)) olds in
     AsInTheBook b calls tolds s
 
--- what an answer tells
-abbrev pub told_by : Edited → Told
-told_by (edited.Done size used standing) = Accepted
-told_by (edited.Refused f) = told_of f
-
 -- what is lent to the next call: both buffers, and the answer's numbers, or the old ones where it was refused
-abbrev pub after : State → Edited → List ℕ → List ℕ → State
-after s (edited.Done size used standing) file journal = lent file size journal used standing
-after s (edited.Refused f) file journal = lent file s.size journal s.used s.standing
+abbrev pub after : State → Answer Edited → List ℕ → List ℕ → State
+after s (Ok n) file journal = lent file n.size journal n.used n.standing
+after s (Err f) file journal = lent file s.size journal s.used s.standing
 
 -- the same of forgetting, to which the journal alone is lent
-abbrev pub after_forgot : State → Forgot → List ℕ → State
+abbrev pub after_forgot : State → Answer Forgot → List ℕ → State
 after_forgot s r journal = with_journal s (at_exit (alone.lent journal s.used s.standing) (left_in journal r))
 
 -- a call that answered r and left these buffers, as the contracts of set, remove, undo and redo promise, that of forget, and that of batch
 pub data ByContract : State → List Call → List Told → State → Type 0 where
-  made : {s : State} {c : Call} {r : Edited} {file journal : List ℕ}
-      → Made s (state_call s c) r file journal → ByContract s (c ∷ []) (told_by r ∷ []) (after s r file journal)
-  forgot : {s : State} {k : ℕ} {r : Forgot} {journal : List ℕ}
-      → Forgets (journal_of s) k r journal → ByContract s (Forget k ∷ []) (told (left_in journal r) ∷ []) (after_forgot s r journal)
+  made : {s : State} {c : Call} {r : Answer Edited} {file journal : List ℕ}
+      → Made s (state_call s c) r file journal → ByContract s (c ∷ []) (told r ∷ []) (after s r file journal)
+  forgot : {s : State} {k : ℕ} {r : Answer Forgot} {journal : List ℕ}
+      → Forgets (journal_of s) k r journal → ByContract s (Forget k ∷ []) (told r ∷ []) (after_forgot s r journal)
   batched : {s : State} {author : Author} {list : List ℕ} {r : Batched} {file journal : List ℕ} {cs : List Call} {xs : List Told}
       → many.Made (batch s author list) r file journal → InPlaceOf s author list (batch_told (batch_of r file journal)) cs xs
       → ByContract s cs xs (batch_of r file journal).state

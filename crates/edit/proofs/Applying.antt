@@ -29,10 +29,9 @@ use Rattle.change.specs.Change.{Request, edit_of}
 use Rattle.change.specs.Target.{new_bytes, edit_by}
 use Rattle.change.specs.declared.Target.{Target}
 use Rattle.change.specs.declared.Target.TheVariants.{Value, Entry, Line as Gone}
-use Rattle.edit.specs.Calls.{State, content, opened, file_fits, record_fits, applied, request, Numbers, lent, Made, numbers_of}
-use Rattle.edit.specs.Step.{passed, applied_by}
+use Rattle.edit.specs.Calls.{State, content, opened, file_fits, record_fits, applied, request, lent, Made, numbers_of}
+use Rattle.edit.specs.Step.{passed}
 use Rattle.edit.specs.declared.Edited.{Edited}
-use Rattle.edit.specs.declared.Edited.TheVariants.{Done, Refused}
 
 -- ---- the record
 
@@ -108,30 +107,30 @@ module _ (s : State) (e : Authored Edit) where
   made f g = rw (f, g)
 
   -- a refusal changes nothing
-  refused-made : {f : Fault} → applied s e ≡ Err f → Made s (applied s e) (Refused f) s.file s.journal
+  refused-made : {f : Fault} → applied s e ≡ Err f → Made s (applied s e) (Err f) s.file s.journal
   refused-made q = record { answer = rw q; file_is = rw q; journal_is = rw q }
 
   module _ (h : e.what.place + length e.what.old ≤ length (content s)) where
-    pub file-full : length s.file < length (content s) - length e.what.old + length e.what.new → Made s (applied s e) (Refused NoRoom) s.file s.journal
+    pub file-full : length s.file < length (content s) - length e.what.old + length e.what.new → Made s (applied s e) (Err NoRoom) s.file s.journal
     file-full k = refused-made (no_room (over_first (length (spliced e.what (content s))) (length s.file) 32768 (rw (length-spliced e.what (content s) h) k)))
 
-    pub file-most : 32768 < length (content s) - length e.what.old + length e.what.new → Made s (applied s e) (Refused NoRoom) s.file s.journal
+    pub file-most : 32768 < length (content s) - length e.what.old + length e.what.new → Made s (applied s e) (Err NoRoom) s.file s.journal
     file-most k = refused-made (no_room (over-either (length (spliced e.what (content s))) (length s.file) 32768 (rw (length-spliced e.what (content s) h) k)))
 
     module _ (a : length (content s) - length e.what.old + length e.what.new ≤ length s.file) (b : length (content s) - length e.what.old + length e.what.new ≤ 32768) where
       fits : file_fits (length s.file) (spliced e.what (content s)) ≡ true
       fits = let l = length-spliced e.what (content s) h in fits_both (length (spliced e.what (content s))) (length s.file) 32768 (omega arith) (omega arith)
 
-      pub journal-full : length s.journal < s.standing + edit_length e → Made s (applied s e) (Refused JournalFull) s.file s.journal
+      pub journal-full : length s.journal < s.standing + edit_length e → Made s (applied s e) (Err JournalFull) s.file s.journal
       journal-full k = refused-made (no_record fits (over_first (s.standing + edit_length e) (length s.journal) 65536 k))
 
-      pub journal-most : 65536 < s.standing + edit_length e → Made s (applied s e) (Refused JournalFull) s.file s.journal
+      pub journal-most : 65536 < s.standing + edit_length e → Made s (applied s e) (Err JournalFull) s.file s.journal
       journal-most k = refused-made (no_record fits (over-either (s.standing + edit_length e) (length s.journal) 65536 k))
 
       pub all_made : s.standing + edit_length e ≤ length s.journal → s.standing + edit_length e ≤ 65536
           → {n m : ℕ} {file journal : List ℕ} → n ≡ length (spliced e.what (content s)) → m ≡ s.standing + edit_length e
           → file ≡ buffer_with s.file s.size (spliced e.what (content s)) → journal ≡ over s.journal s.standing (record_bytes (edit_record e))
-          → Made s (applied s e) (Done n m m) file journal
+          → Made s (applied s e) (Ok (record { size = n; used = m; standing = m })) file journal
       all_made c d {n} {m} {file} {journal} u v x y =
           let q = made fits (fits_both (s.standing + edit_length e) (length s.journal) 65536 c d) in
           record { answer = rw (q, u, v); file_is = rw q x; journal_is = rw q y }
@@ -140,21 +139,25 @@ module _ (s : State) (e : Authored Edit) where
 
 module _ (f key text : List ℕ) {t : Target} where
   pub value-edit : {from to : ℕ} → t ≡ Value from to → from ≤ to
-      → Ok (record { place = from; old = part from (from + (to - from)) f; new = new_bytes key text (Value from to) }) ≡ edit_by f key text t
+      → record { place = from; old = part from (from + (to - from)) f; new = new_bytes key text (Value from to) } ≡ edit_by f key text t
   value-edit {from} {to} q h = let k : from + (to - from) ≡ to = omega arith in rw (q, k)
 
   pub line-edit : {from to : ℕ} → t ≡ Gone from to → from ≤ to
-      → Ok (record { place = from; old = part from (from + (to - from)) f; new = new_bytes key text (Gone from to) }) ≡ edit_by f key text t
+      → record { place = from; old = part from (from + (to - from)) f; new = new_bytes key text (Gone from to) } ≡ edit_by f key text t
   line-edit {from} {to} q h = let k : from + (to - from) ≡ to = omega arith in rw (q, k)
 
   pub entry-edit : {at : ℕ} {after : Bool} → t ≡ Entry at after
-      → Ok (record { place = at; old = part at (at + 0) f; new = new_bytes key text (Entry at after) }) ≡ edit_by f key text t
+      → record { place = at; old = part at (at + 0) f; new = new_bytes key text (Entry at after) } ≡ edit_by f key text t
   entry-edit {at} q = let k : at + 0 - at ≡ 0 = omega arith in rw (q, k)
 
 -- ---- a request
 
+-- the edit of an author applied, or its refusal
+abbrev applied_by : State → Author → Answer Edit → Answer State
+applied_by s author a = a >>= λ e. applied s (by author e)
+
 -- the bytes used before do not matter to what is told and left
-used-free : (s : State) (u : ℕ) (author : Author) (a : Answer Edit) {r : Edited} {file journal : List ℕ}
+used-free : (s : State) (u : ℕ) (author : Author) (a : Answer Edit) {r : Answer Edited} {file journal : List ℕ}
     → Made (record { file = s.file; size = s.size; journal = s.journal; used = u; standing = s.standing })
     (applied_by (record { file = s.file; size = s.size; journal = s.journal; used = u; standing = s.standing }) author a) r file journal
     → Made s (applied_by s author a) r file journal
@@ -182,16 +185,16 @@ used-free s u author (Ok e) {r} {file} {journal} m = go (file_fits (length s.fil
 
 module _ (s : State) (q : Authored Request) where
   -- not opened: the same refusal, and nothing changes
-  pub not_opened : {f : Fault} → Err f ≡ passed (opened s) → Made s (request s q) (Refused f) s.file s.journal
+  pub not_opened : {f : Fault} → Err f ≡ passed (opened s) → Made s (request s q) (Err f) s.file s.journal
   unfolding request
   not_opened {f} e = go (opened s) e
     where
-      go : (o : Answer Journal) → Err f ≡ passed o → Made s (o >>= λ _. applied_by s q.author (edit_of (content s) q.what)) (Refused f) s.file s.journal
+      go : (o : Answer Journal) → Err f ≡ passed o → Made s (o >>= λ _. applied_by s q.author (edit_of (content s) q.what)) (Err f) s.file s.journal
       go (Ok j) h = no (cc)
       go (Err g) h = let w : f ≡ g = cc in rw w (record { answer = refl; file_is = refl; journal_is = refl })
 
   -- opened: the request is the edit's
-  pub was-opened : Ok tt ≡ passed (opened s) → {r : Edited} {file journal : List ℕ}
+  pub was-opened : Ok tt ≡ passed (opened s) → {r : Answer Edited} {file journal : List ℕ}
       → Made (lent s.file s.size s.journal 0 s.standing) (applied_by (lent s.file s.size s.journal 0 s.standing) q.author (edit_of (content s) q.what)) r file journal
       → Made s (request s q) r file journal
   unfolding request
@@ -204,19 +207,17 @@ module _ (s : State) (q : Authored Request) where
 -- ---- what a call that was made says of its answer
 
 module _ {s : State} {a : Answer State} {file journal : List ℕ} where
-  pub made-done : {size used standing : ℕ} → Made s a (Done size used standing) file journal → a ≡ Ok (lent file size journal used standing)
-  made-done {size} {used} {standing} m = go a m.answer m.file_is m.journal_is
+  pub made-done : {n : Edited} → Made s a (Ok n) file journal → a ≡ Ok (lent file n.size journal n.used n.standing)
+  made-done {n} m = go a m.answer m.file_is m.journal_is
     where
-      go : (a : Answer State) → Ok (record { size = size; used = used; standing = standing }) ≡ then numbers_of a → file ≡ (at_exit s a).file → journal ≡ (at_exit s a).journal
-          → a ≡ Ok (lent file size journal used standing)
+      go : (a : Answer State) → Ok n ≡ then numbers_of a → file ≡ (at_exit s a).file → journal ≡ (at_exit s a).journal
+          → a ≡ Ok (lent file n.size journal n.used n.standing)
       go (Err f) h f-is j-is = no (cc)
       go (Ok t) h f-is j-is =
-          let x : Numbers = record { size = t.size; used = t.used; standing = t.standing } in
-          let y : Numbers = record { size = size; used = used; standing = standing } in
-          let n : x ≡ y = cc in
-          λ i. Ok (record { file = sym f-is i; size = (n i).size; journal = sym j-is i; used = (n i).used; standing = (n i).standing })
+          let e : numbers_of t ≡ n = cc in
+          λ i. Ok (record { file = sym f-is i; size = (e i).size; journal = sym j-is i; used = (e i).used; standing = (e i).standing })
 
-  pub made-refused : {f : Fault} → Made s a (Refused f) file journal → (a ≡ Err f) × (file ≡ s.file) × (journal ≡ s.journal)
+  pub made-refused : {f : Fault} → Made s a (Err f) file journal → (a ≡ Err f) × (file ≡ s.file) × (journal ≡ s.journal)
   made-refused {f} m = go a m.answer m.file_is m.journal_is
     where
       go : (a : Answer State) → Err f ≡ then numbers_of a → file ≡ (at_exit s a).file → journal ≡ (at_exit s a).journal → (a ≡ Err f) × (file ≡ s.file) × (journal ≡ s.journal)

@@ -14,10 +14,9 @@ use Rattle.journal.specs.Lent.{journal_in}
 use Rattle.journal.specs.Walk.{Placed, ending_at, starting_at, next_on}
 use Rattle.journal.specs.declared.Way.{Way}
 use Rattle.journal.specs.declared.Way.TheVariants.{Undo, Redo}
-use Rattle.edit.specs.Calls.{State, content, journal_of, opened, replayed, undo, redo, answered, file_checked, replayed_in, with_file, Made, numbers_of}
+use Rattle.edit.specs.Calls.{State, content, journal_of, opened, replayed, undo, redo, file_checked, replayed_in, with_file, Made, numbers_of}
 use Rattle.edit.specs.Step.{numbers, became, undo_or_redo}
 use Rattle.edit.specs.declared.Edited.{Edited}
-use Rattle.edit.specs.declared.Edited.TheVariants as edited
 
 -- ---- the edit is made, with numbers
 
@@ -122,18 +121,18 @@ way-steps Redo s = record {
 
 -- what the call answers and leaves
 module _ {s : State} {from : Answer Placed} {turn : Edit → Edit} {number : Placed → ℕ} {call : Answer State} (w : Steps s from turn number call) where
-  refused-so : {f : Fault} → call ≡ Err f → Made s call (edited.Refused f) s.file s.journal
+  refused-so : {f : Fault} → call ≡ Err f → Made s call (Err f) s.file s.journal
   refused-so e = record { answer = rw e; file_is = rw e; journal_is = w.keeps }
 
-  pub made-unready : {f : Fault} → Err f ≡ file_checked s → Made s call (edited.Refused f) s.file s.journal
+  pub made-unready : {f : Fault} → Err f ≡ file_checked s → Made s call (Err f) s.file s.journal
   made-unready e = refused-so (w.is ∙ rw (← e))
 
   module _ (r : Ok tt ≡ file_checked s) where
-    pub made-unread : {f : Fault} → Err f ≡ from → Made s call (edited.Refused f) s.file s.journal
+    pub made-unread : {f : Fault} → Err f ≡ from → Made s call (Err f) s.file s.journal
     made-unread g = refused-so (w.is ∙ rw (← r, ← g))
 
-    pub made_again : {p : Placed} {x : Edited} {file : List ℕ} → Ok p ≡ from
-        → answered x ≡ then (numbers s.used (number p)) (replayed_in (length s.file) (content s) (turn p.edit))
+    pub made_again : {p : Placed} {x : Answer Edited} {file : List ℕ} → Ok p ≡ from
+        → x ≡ then (numbers s.used (number p)) (replayed_in (length s.file) (content s) (turn p.edit))
         → file ≡ became s.file s.size (replayed_in (length s.file) (content s) (turn p.edit))
         → Made s call x file s.journal
     made_again {p} g a b =

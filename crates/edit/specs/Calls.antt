@@ -1,5 +1,5 @@
 -- Set, remove, undo and redo on two lent buffers and three numbers (01, "Edits and the journal"; 02, A9). Assumes nothing.
-use Rattle.std.specs.Prelude.{◌≡◌, ℕ, ◌+◌, ◌-◌, Bool, ◌&&◌, List, length, take, leb, Ok, Err}
+use Rattle.std.specs.Prelude.{◌≡◌, ℕ, ◌+◌, ◌-◌, Bool, ◌&&◌, List, length, take, leb, Ok}
 use Rattle.base.specs.Bounds.{file_most, journal_most}
 use Rattle.base.specs.Over.{over}
 use Rattle.fault.specs.declared.Fault.TheVariants.{Damaged, NoRoom, NothingLeft, JournalFull}
@@ -13,7 +13,6 @@ use Rattle.journal.specs.Journal.{Authored, by, Journal, edit_record, edit_lengt
 use Rattle.journal.specs.Lent as journal
 use Rattle.journal.specs.Lent.{Lent, numbers_fit, journal_in}
 use Rattle.edit.specs.declared.Edited.{Edited}
-use Rattle.edit.specs.declared.Edited.TheVariants as edited
 
 -- what is lent: the file's buffer and length, the journal's buffer, bytes used and bytes standing
 pub record State : Type 0 where
@@ -118,23 +117,12 @@ redo s = do
 
 -- ---- what a call answers and leaves
 
--- the three numbers after a call
-pub record Numbers : Type 0 where
-  pub size : ℕ
-  pub used : ℕ
-  pub standing : ℕ
-
--- those of what is lent
-abbrev pub numbers_of : State → Numbers
+-- the three numbers of what is lent
+abbrev pub numbers_of : State → Edited
 numbers_of s = record { size = s.size; used = s.used; standing = s.standing }
 
--- what an answer says
-abbrev pub answered : Edited → Answer Numbers
-answered (edited.Done size used standing) = Ok (record { size = size; used = used; standing = standing })
-answered (edited.Refused f) = Err f
-
 -- a call that answers so and leaves these bytes in both buffers
-pub record Made (s : State) (a : Answer State) (r : Edited) (file journal : List ℕ) : Type 0 where
-  pub answer : answered r ≡ then numbers_of a
+pub record Made (s : State) (a : Answer State) (r : Answer Edited) (file journal : List ℕ) : Type 0 where
+  pub answer : r ≡ then numbers_of a
   pub file_is : file ≡ (at_exit s a).file
   pub journal_is : journal ≡ (at_exit s a).journal

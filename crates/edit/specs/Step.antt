@@ -1,15 +1,13 @@
 -- What the functions of this crate answer, by the definitions of the four calls. Assumes nothing.
 use Rattle.std.specs.Prelude.{◌≡◌, ℕ, ◌≤◌, true, List, length, take, Ok, Err}
 use Rattle.base.specs.Bounds.{file_most, journal_most}
-use Rattle.fault.specs.Answer.{Answer, ◌>>=◌}
+use Rattle.fault.specs.Answer.{Answer}
 use Rattle.rows.specs.Find.{none_bad}
 use Rattle.splice.specs.Edit.{Edit, buffer_with}
-use Rattle.journal.specs.Journal.{Author, by}
 use Rattle.journal.specs.declared.Way.{Way}
 use Rattle.journal.specs.declared.Way.TheVariants as way
-use Rattle.edit.specs.Calls.{State, Numbers, applied, undo, redo}
-use Rattle.edit.specs.declared.Replayed.{Replayed}
-use Rattle.edit.specs.declared.Replayed.TheVariants as replay
+use Rattle.edit.specs.Calls.{State, undo, redo}
+use Rattle.edit.specs.declared.Edited.{Edited}
 
 -- an answer without its value
 abbrev pub passed : {A : Type 0} → Answer A → Answer (Unit {0})
@@ -28,23 +26,14 @@ pub record Ready (file : List ℕ) (size standing : ℕ) : Type 0 where
 abbrev pub swap : ℕ → List ℕ → List ℕ → Edit
 swap place gone come = record { place = place; old = gone; new = come }
 
--- the length of the file after an edit from the journal
-abbrev pub sized : Replayed → Answer ℕ
-sized (replay.Size n) = Ok n
-sized (replay.Refused f) = Err f
-
 -- the numbers that go with a file
-abbrev pub numbers : ℕ → ℕ → List ℕ → Numbers
+abbrev pub numbers : ℕ → ℕ → List ℕ → Edited
 numbers used standing file = record { size = length file; used = used; standing = standing }
 
 -- the buffer of a file that became another, if it did
 abbrev pub became : List ℕ → ℕ → Answer (List ℕ) → List ℕ
 became buffer size (Ok file) = buffer_with buffer size file
 became buffer size (Err f) = buffer
-
--- the edit of an author applied, or its refusal
-abbrev pub applied_by : State → Author → Answer Edit → Answer State
-applied_by s author a = a >>= λ e. applied s (by author e)
 
 -- undo or redo, by the way through the journal
 abbrev pub undo_or_redo : Way → State → Answer State

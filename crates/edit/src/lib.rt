@@ -1,7 +1,7 @@
 // Set, remove, undo and redo on two lent buffers and three numbers.
 #![tactic(auto)]
 
-ghost use Rattle.std.specs.Prelude.{◌≡◌, true, ◌+◌, ◌-◌, ◌≤◌, length, take, Ok};
+ghost use Rattle.std.specs.Prelude.{◌≡◌, true, ◌+◌, ◌-◌, ◌≤◌, length, take};
 ghost use Rattle.base.specs.Bounds.{file_most, journal_most};
 ghost use Rattle.base.specs.Lists.{part};
 ghost use Rattle.base.specs.Over.{over};
@@ -18,25 +18,15 @@ ghost use Rattle.edit.specs.Step as step;
 
 use change::{Operation, Target};
 use fault::Fault;
-use journal::{Next, Way};
+use journal::{Record, Way};
 use wellformed::Checked;
 
-// What a call answers: the file's new length and the journal's two new numbers, or its refusal.
+// The file's length and the journal's two numbers after a call.
 #[derive(Clone, Copy)]
-pub enum Edited {
-    Done {
-        size: usize,
-        used: usize,
-        standing: usize,
-    },
-    Refused(Fault),
-}
-
-// What an edit from the journal makes of a file: its new length, or a refusal.
-#[derive(Clone, Copy)]
-pub enum Replayed {
-    Size(usize),
-    Refused(Fault),
+pub struct Edited {
+    pub size: usize,
+    pub used: usize,
+    pub standing: usize,
 }
 
 // A part of some bytes, the end exclusive.
@@ -98,36 +88,36 @@ fn make(
     key: &[u8],
     text: &[u8],
     t: Target,
-) -> Edited
+) -> Result<Edited, Fault>
     requires { (size ≤ length file.old) × (size ≤ file_most) × (standing ≤ journal_most) × (place + old ≤ size) }
     ensures { calls.Made (calls.lent file.old size journal.old 0 standing)
-        (step.applied_by (calls.lent file.old size journal.old 0 standing) (Person person)
-        (Ok (record { place = place; old = part place (place + old) (take size file.old); new = target.new_bytes key.now text.now t })))
+        (calls.applied (calls.lent file.old size journal.old 0 standing) (by (Person person)
+        (record { place = place; old = part place (place + old) (take size file.old); new = target.new_bytes key.now text.now t })))
         result file.new journal.new }
 {
     let n = change::new_length(key, text, t);
     let len = size - old + n;
     if file.len() < len {
-        return Edited::Refused(Fault::NoRoom);
+        return Err(Fault::NoRoom);
     }
     if base::FILE_MOST < len {
-        return Edited::Refused(Fault::NoRoom);
+        return Err(Fault::NoRoom);
     }
     let end = standing + (20 + old + n);
     if journal.len() < end {
-        return Edited::Refused(Fault::JournalFull);
+        return Err(Fault::JournalFull);
     }
     if base::JOURNAL_MOST < end {
-        return Edited::Refused(Fault::JournalFull);
+        return Err(Fault::JournalFull);
     }
     write(
         file, size, journal, standing, person, place, old, key, text, t, n,
     );
-    Edited::Done {
+    Ok(Edited {
         size: len,
         used: end,
         standing: end,
-    }
+    })
 }
 
 // The edit that a target asks for.
@@ -140,11 +130,11 @@ fn apply(
     key: &[u8],
     text: &[u8],
     t: Target,
-) -> Edited
+) -> Result<Edited, Fault>
     requires { (size ≤ length file.old) × (size ≤ file_most) × (standing ≤ journal_most) × target.Inside size t }
     ensures { calls.Made (calls.lent file.old size journal.old 0 standing)
-        (step.applied_by (calls.lent file.old size journal.old 0 standing) (Person person)
-        (target.edit_by (take size file.old) key.now text.now t))
+        (calls.applied (calls.lent file.old size journal.old 0 standing)
+        (by (Person person) (target.edit_by (take size file.old) key.now text.now t)))
         result file.new journal.new }
 {
     match t {
@@ -162,7 +152,7 @@ fn apply(
                 t,
             )
         }
-        Target::Entry { at, after: _ } => {
+        Target::Entry { at, .. } => {
             make(file, size, journal, standing, person, at, 0, key, text, t)
         }
         Target::Line { from, to } => {
@@ -179,7 +169,6 @@ fn apply(
                 t,
             )
         }
-        Target::Refused(f) => Edited::Refused(f),
     }
 }
 
@@ -194,14 +183,14 @@ pub fn carry_out(
     group: &[u8],
     key: &[u8],
     text: &[u8],
-) -> Edited
+) -> Result<Edited, Fault>
     requires { step.Ready file.old size standing }
     ensures { calls.Made (calls.lent file.old size journal.old 0 standing)
         (calls.request_opened (calls.lent file.old size journal.old 0 standing)
         (by (Person person) (target.request_by op group.now key.now text.now)))
         result file.new journal.new }
 {
-    let t = change::find_target(&file[..size], op, group, key, text);
+    let t = change::find_target(&file[..size], op, group, key, text)?;
     apply(file, size, journal, standing, person, key, text, t)
 }
 
@@ -232,14 +221,14 @@ fn request(
     group: &[u8],
     key: &[u8],
     text: &[u8],
-) -> Edited
+) -> Result<Edited, Fault>
     ensures { calls.Made (calls.lent file.old size journal.old used standing)
         (calls.request (calls.lent file.old size journal.old used standing)
         (by (Person person) (target.request_by op group.now key.now text.now)))
         result file.new journal.new }
 {
     match check_lent(file, size, journal, used, standing) {
-        Checked::Refused(f) => Edited::Refused(f),
+        Checked::Refused(f) => Err(f),
         Checked::Sound => carry_out(file, size, journal, standing, person, op, group, key, text),
     }
 }
@@ -255,7 +244,7 @@ pub fn set(
     group: &[u8],
     key: &[u8],
     text: &[u8],
-) -> Edited
+) -> Result<Edited, Fault>
     ensures { calls.Made (calls.lent file.old size journal.old used standing)
         (calls.request (calls.lent file.old size journal.old used standing) (by (Person person) (request.Set group.now key.now text.now)))
         result file.new journal.new }
@@ -284,7 +273,7 @@ pub fn remove(
     person: u16,
     group: &[u8],
     key: &[u8],
-) -> Edited
+) -> Result<Edited, Fault>
     ensures { calls.Made (calls.lent file.old size journal.old used standing)
         (calls.request (calls.lent file.old size journal.old used standing) (by (Person person) (request.Remove group.now key.now)))
         result file.new journal.new }
@@ -330,40 +319,42 @@ fn makes_well(file: &[u8], place: usize, old: usize, new: &[u8]) -> bool
 
 // What an edit from the journal would make of a file in a buffer of so many bytes: 14 unless its old bytes stand at the place,
 // 11 if the result has no room, 14 unless it is well formed.
-fn outcome(file: &[u8], room: usize, place: usize, gone: &[u8], come: &[u8]) -> Replayed
+fn outcome(file: &[u8], room: usize, place: usize, gone: &[u8], come: &[u8]) -> Result<usize, Fault>
     requires { (length file.now ≤ room) × (length file.now ≤ file_most) }
-    ensures { step.sized result ≡ then length (calls.replayed_in room file.now (step.swap place gone.now come.now)) }
+    ensures { result ≡ then length (calls.replayed_in room file.now (step.swap place gone.now come.now)) }
 {
     if !splice::stands(file, place, gone) {
-        return Replayed::Refused(Fault::Damaged);
+        return Err(Fault::Damaged);
     }
     let kept = file.len() - gone.len();
     if room - kept < come.len() {
-        return Replayed::Refused(Fault::NoRoom);
+        return Err(Fault::NoRoom);
     }
     if base::FILE_MOST - kept < come.len() {
-        return Replayed::Refused(Fault::NoRoom);
+        return Err(Fault::NoRoom);
     }
     if makes_well(file, place, gone.len(), come) {
-        return Replayed::Size(kept + come.len());
+        return Ok(kept + come.len());
     }
-    Replayed::Refused(Fault::Damaged)
+    Err(Fault::Damaged)
 }
 
 // An edit from the journal: decided first, and then made in the file's own buffer.
-fn replay(file: &mut [u8], size: usize, place: usize, gone: &[u8], come: &[u8]) -> Replayed
+fn replay(
+    file: &mut [u8],
+    size: usize,
+    place: usize,
+    gone: &[u8],
+    come: &[u8],
+) -> Result<usize, Fault>
     requires { (size ≤ length file.old) × (size ≤ file_most) }
-    ensures answer { step.sized result ≡ then length (calls.replayed_in (length file.old) (take size file.old) (step.swap place gone.now come.now)) }
+    ensures answer { result ≡ then length (calls.replayed_in (length file.old) (take size file.old) (step.swap place gone.now come.now)) }
     ensures file { file.new ≡ step.became file.old size (calls.replayed_in (length file.old) (take size file.old) (step.swap place gone.now come.now)) }
 {
     let room = file.len();
-    match outcome(&file[..size], room, place, gone, come) {
-        Replayed::Refused(f) => Replayed::Refused(f),
-        Replayed::Size(n) => {
-            splice::replace(file, size, place, gone.len(), come);
-            Replayed::Size(n)
-        }
-    }
+    let len = outcome(&file[..size], room, place, gone, come)?;
+    splice::replace(file, size, place, gone.len(), come);
+    Ok(len)
 }
 
 // An edit from the journal, of bytes that stand in the journal, and the numbers after it.
@@ -376,24 +367,22 @@ fn again(
     place: usize,
     gone: Part,
     come: Part,
-) -> Edited
+) -> Result<Edited, Fault>
     requires size_fits { (size ≤ length file.old) × (size ≤ file_most) }
     requires parts_fit { (gone.from ≤ gone.to) × (gone.to ≤ length edits.now) × (come.from ≤ come.to) × (come.to ≤ length edits.now) }
-    ensures answer { calls.answered result ≡ then (step.numbers used standing) (calls.replayed_in (length file.old) (take size file.old) (step.swap place (part gone.from gone.to edits.now) (part come.from come.to edits.now))) }
+    ensures answer { result ≡ then (step.numbers used standing) (calls.replayed_in (length file.old) (take size file.old) (step.swap place (part gone.from gone.to edits.now) (part come.from come.to edits.now))) }
     ensures file { file.new ≡ step.became file.old size (calls.replayed_in (length file.old) (take size file.old) (step.swap place (part gone.from gone.to edits.now) (part come.from come.to edits.now))) }
 {
     let a = gone.from;
     let b = gone.to;
     let c = come.from;
     let d = come.to;
-    match replay(file, size, place, &edits[a..b], &edits[c..d]) {
-        Replayed::Refused(f) => Edited::Refused(f),
-        Replayed::Size(size) => Edited::Done {
-            size,
-            used,
-            standing,
-        },
-    }
+    let size = replay(file, size, place, &edits[a..b], &edits[c..d])?;
+    Ok(Edited {
+        size,
+        used,
+        standing,
+    })
 }
 
 // One edit along the journal: 14 for the numbers, 1 to 6, 14 for the journal, 12 if nothing is left on the way, and the refusals of the edit.
@@ -404,39 +393,40 @@ fn turn(
     used: usize,
     standing: usize,
     way: Way,
-) -> Edited
+) -> Result<Edited, Fault>
     ensures { calls.Made (calls.lent file.old size journal.now used standing)
         (step.undo_or_redo way (calls.lent file.old size journal.now used standing))
         result file.new journal.now }
 {
     match check_file(file, size, journal, used, standing) {
-        Checked::Refused(f) => Edited::Refused(f),
+        Checked::Refused(f) => Err(f),
         Checked::Sound => {
             let edits = &journal[..used];
-            match journal::next_on(edits, standing, way) {
-                Next::Damaged => Edited::Refused(Fault::Damaged),
-                Next::Nothing => Edited::Refused(Fault::NothingLeft),
-                Next::Edit {
-                    start,
-                    place,
-                    old,
-                    new,
-                    end,
-                } => {
-                    let older = Part { from: old, to: new };
-                    let newer = Part { from: new, to: end };
-                    match way {
-                        Way::Undo => again(file, size, edits, used, start, place, newer, older),
-                        Way::Redo => again(file, size, edits, used, end, place, older, newer),
-                    }
-                }
+            let Record {
+                start,
+                place,
+                old,
+                new,
+                end,
+            } = journal::next_on(edits, standing, way)?;
+            let older = Part { from: old, to: new };
+            let newer = Part { from: new, to: end };
+            match way {
+                Way::Undo => again(file, size, edits, used, start, place, newer, older),
+                Way::Redo => again(file, size, edits, used, end, place, older, newer),
             }
         }
     }
 }
 
 // Undo: the latest edit that stands is taken back, and its record no longer stands.
-pub fn undo(file: &mut [u8], size: usize, journal: &[u8], used: usize, standing: usize) -> Edited
+pub fn undo(
+    file: &mut [u8],
+    size: usize,
+    journal: &[u8],
+    used: usize,
+    standing: usize,
+) -> Result<Edited, Fault>
     ensures { calls.Made (calls.lent file.old size journal.now used standing)
         (calls.undo (calls.lent file.old size journal.now used standing))
         result file.new journal.now }
@@ -445,7 +435,13 @@ pub fn undo(file: &mut [u8], size: usize, journal: &[u8], used: usize, standing:
 }
 
 // Redo: the next edit that waits is made again, and its record stands.
-pub fn redo(file: &mut [u8], size: usize, journal: &[u8], used: usize, standing: usize) -> Edited
+pub fn redo(
+    file: &mut [u8],
+    size: usize,
+    journal: &[u8],
+    used: usize,
+    standing: usize,
+) -> Result<Edited, Fault>
     ensures { calls.Made (calls.lent file.old size journal.now used standing)
         (calls.redo (calls.lent file.old size journal.now used standing))
         result file.new journal.now }

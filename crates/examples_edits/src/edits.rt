@@ -3,6 +3,7 @@
 ghost use Rattle.std.specs.Prelude.{◌≤◌, length};
 
 use edit::Edited;
+use fault::Fault;
 use report::{quote, say, say_number, tell_edited, tell_forgot, tell_named};
 use std::io;
 
@@ -67,29 +68,32 @@ fn say_sets(
     say(rt, b" by 2")
 }
 
-// A set after one that is done.
-fn set_next(first: Edited, file: &mut [u8], journal: &mut [u8], key: &[u8], text: &[u8]) -> Edited {
-    match first {
-        Edited::Done {
-            size,
-            used,
-            standing,
-        } => edit::set(
-            file,
-            size,
-            journal,
-            used,
-            standing,
-            2,
-            b"Desktop Entry",
-            key,
-            text,
-        ),
-        Edited::Refused(f) => Edited::Refused(f),
-    }
+// Two sets, the second where the first is done.
+fn set_in_turn(
+    size: usize,
+    file: &mut [u8],
+    journal: &mut [u8],
+    key: &[u8],
+    text: &[u8],
+    next: &[u8],
+    next_text: &[u8],
+) -> Result<Edited, Fault> {
+    let group = b"Desktop Entry";
+    let first = edit::set(file, size, journal, 0, 0, 1, group, key, text)?;
+    edit::set(
+        file,
+        first.size,
+        journal,
+        first.used,
+        first.standing,
+        2,
+        group,
+        next,
+        next_text,
+    )
 }
 
-fn set_in_turn(
+fn tell_in_turn(
     rt: &impl Print,
     size: usize,
     file: &mut [u8],
@@ -99,8 +103,7 @@ fn set_in_turn(
     next: &[u8],
     next_text: &[u8],
 ) -> io::Result<()> {
-    let first = edit::set(file, size, journal, 0, 0, 1, b"Desktop Entry", key, text);
-    let both = set_next(first, file, journal, next, next_text);
+    let both = set_in_turn(size, file, journal, key, text, next, next_text);
     tell_edited(rt, both, file, journal)
 }
 
@@ -118,7 +121,7 @@ fn set_both(
     let mut journal = [b'.'; 56];
     splice::write(&mut file, 0, t);
     say_sets(rt, key, text, next, next_text)?;
-    set_in_turn(
+    tell_in_turn(
         rt,
         t.len(),
         &mut file,

@@ -1,6 +1,7 @@
 -- A do block that gives an answer passed each of its lines, and one that refuses was refused by one. Assumes nothing.
-use Rattle.std.specs.Prelude.{Option, Some, None, Ok, Err}
-use mathlib.Core.Path.{◌≡◌, refl}
+use Rattle.std.specs.Prelude.{Option, Some, None, Ok, Err, ok_or, IsErrAnd}
+use Rattle.std.proofs.lemmas.Result.{err_from_is_err_and}
+use mathlib.Core.Path.{◌≡◌, refl, ap, ◌∙◌}
 use mathlib.Core.Bool.{Bool, true, false, false≢true}
 use Rattle.base.proofs.Tests.{no}
 use Rattle.fault.specs.declared.Fault.{Fault}
@@ -47,3 +48,14 @@ bind-then h (Err f) = refl
 pub accepted-given : {A : Type 0} (a : Answer A) → accepted a ≡ true → (x : A) × (a ≡ Ok x)
 accepted-given (Ok x) e = (x, refl)
 accepted-given (Err f) e = absurd (false≢true e)
+
+-- ---- the code's own words
+
+-- a refusal that is handed on
+pub handed-on : {A : Type 0} (r : Answer A) {f : Fault} → IsErrAnd r (λ g. g ≡ f) → r ≡ Err f
+handed-on r h = let p = err_from_is_err_and r h in p.1 ∙ ap Err p.2
+
+-- what is there, or else a refusal
+pub ok_or-is : {A : Type 0} (o : Option A) (f : Fault) → ok_or o f ≡ some_or o f
+ok_or-is (Some a) f = refl
+ok_or-is None f = refl

@@ -1,5 +1,5 @@
 -- Where the records of a journal's oldest edits end, and the call that forgets them. Assumes nothing.
-use Rattle.std.specs.Prelude.{Some, None, Ok, Err}
+use Rattle.std.specs.Prelude.{Option, Some, None, Ok, Err, ok_or}
 use mathlib.Core.Path.{◌≡◌, sym, ap, ◌∙◌}
 use mathlib.Core.Bool.{true, false}
 use mathlib.Core.List.{List, [], ◌∷◌, reverse_aux}
@@ -11,19 +11,17 @@ use lib.Dec.{leb}
 use Rattle.base.proofs.Tests.{no, by-test}
 use Rattle.fault.specs.declared.Fault.{Fault}
 use Rattle.fault.specs.declared.Fault.TheVariants.{Damaged, NothingLeft}
-use Rattle.fault.specs.Answer.{Answer, accepted}
-use Rattle.fault.proofs.Answers.{given_is, accepted-given}
+use Rattle.fault.specs.Answer.{accepted}
+use Rattle.fault.proofs.Answers.{accepted-given}
 use Rattle.record.specs.declared.Bounds as found
 use Rattle.record.specs.Record.{Rec, record_length, read_each}
 use Rattle.record.specs.Walk.{bounds_from, nth_of}
 use Rattle.record.proofs.Seek.{first-bounds}
 use Rattle.splice.specs.Edit.{Edit, replaced, buffer_with}
 use Rattle.journal.specs.Journal.{read_edit, Authored, lengths, Journal, oldest, in_order, read_journal}
-use Rattle.journal.specs.Lent.{Lent, lent, used_of, opened, without, forget, left_in, Forgets}
+use Rattle.journal.specs.Lent.{Lent, lent, used_of, opened, without, forget, Forgets}
 use Rattle.journal.specs.Walk.{EndsOldest}
-use Rattle.journal.specs.declared.Oldest.TheVariants.{End, Fewer}
 use Rattle.journal.specs.declared.Forgot.{Forgot}
-use Rattle.journal.specs.declared.Forgot.TheVariants as forgot
 use Rattle.journal.proofs.Numbers.{Bounds}
 use Rattle.journal.proofs.Records.{front-least, lengths-reverse, lengths-parted, order-parted, order-take}
 use Rattle.journal.proofs.Edits.{read_length}
@@ -122,19 +120,21 @@ pub record Goes (s : Lent) (k gone : ℕ) : Type 0 where
   pub bounds : Bounds s
 
 module _ (s : Lent) (k : ℕ) where
-  pub forgets-refused : {f : Fault} → forget s k ≡ Err f → Forgets s k (forgot.Refused f) s.journal
+  pub forgets-refused : {f : Fault} → forget s k ≡ Err f → Forgets s k (Err f) s.journal
   forgets-refused e = record { answer = sym e; journal_is = rw e }
 
   pub forget-unopened : accepted (opened s) ≡ false → forget s k ≡ Err Damaged
   forget-unopened h = forget-shut s k (opened-refused s h)
 
   module _ (h : accepted (opened s) ≡ true) where
-    pub forget-fewer : EndsOldest (used_of s) s.standing k Fewer → forget s k ≡ Err NothingLeft
-    forget-fewer f =
+    pub forget-fewer : {f : Fault} (o : Option ℕ) → ok_or o NothingLeft ≡ Err f → EndsOldest (used_of s) s.standing k o → forget s k ≡ Err f
+    forget-fewer {f} None e q =
         let j = accepted-given (opened s) h in
-        forget-lacks s k j.0 j.1 (f j.0 (opened-says s j.0 j.1).reads)
+        let z : NothingLeft ≡ f = cc in
+        forget-lacks s k j.0 j.1 (q j.0 (opened-says s j.0 j.1).reads) ∙ ap Err z
+    forget-fewer (Some n) e q = no (cc)
 
-    pub forget_goes : {gone : ℕ} → EndsOldest (used_of s) s.standing k (End gone) → Goes s k gone
+    pub forget_goes : {gone : ℕ} → EndsOldest (used_of s) s.standing k (Some gone) → Goes s k gone
     forget_goes f =
         let j = accepted-given (opened s) h in
         let o = opened-says s j.0 j.1 in
@@ -145,15 +145,11 @@ module _ (s : Lent) (k : ℕ) where
           bounds = o.bounds;
         }
 
-  pub forgets-done : {gone : ℕ} {r : Forgot} {journal : List ℕ} → Goes s k gone → left_in journal r ≡ Ok (without gone s) → Forgets s k r journal
-  forgets-done {gone} {r} {journal} g e = record { answer = e ∙ sym g.is; journal_is = go r e ∙ rw g.is }
-    where
-      go : (r : Forgot) → left_in journal r ≡ Ok (without gone s) → journal ≡ (without gone s).journal
-      go (forgot.Done u n) h = ap (λ (t : Lent). t.journal) (given_is (lent journal u n) (without gone s) h)
-      go (forgot.Refused f) h = no (cc)
+  pub forgets-done : {gone : ℕ} {n : Forgot} {journal : List ℕ} → Goes s k gone → lent journal n.used n.standing ≡ without gone s → Forgets s k (Ok n) journal
+  forgets-done g e = record { answer = ap Ok e ∙ sym g.is; journal_is = ap (λ (t : Lent). t.journal) e ∙ rw g.is }
 
 -- a move to the front is all that it takes
 pub front-dropped : (s : Lent) (gone : ℕ) {journal : List ℕ} → journal ≡ buffer_with s.journal s.used (replaced 0 gone [] (used_of s))
-    → ◌≡◌ {A = Answer Lent} (Ok (lent journal (s.used - gone) (s.standing - gone))) (Ok (without gone s))
+    → lent journal (s.used - gone) (s.standing - gone) ≡ without gone s
 unfolding replaced
 front-dropped s gone e = let z : 0 + gone ≡ gone = omega arith in rw (e, z)

@@ -1,5 +1,5 @@
 -- The edit in the record at a place: none, or its numbers and where its bytes stand. Assumes nothing.
-use Rattle.std.specs.Prelude.{Some, None, option_map}
+use Rattle.std.specs.Prelude.{Some, None, option_map, Ok, Err}
 use mathlib.Core.Path.{◌≡◌, refl, sym, ap, ◌∙◌}
 use mathlib.Core.Bool.{false}
 use mathlib.Core.List.{List}
@@ -10,6 +10,7 @@ use lib.ListN.{length, take, drop, length-drop}
 use Rattle.base.specs.Lists.{part}
 use Rattle.base.proofs.Lists.{length_part}
 use Rattle.base.proofs.Parts.{drop-part, take_part, part-part}
+use Rattle.fault.specs.Answer.{Answer, then}
 use Rattle.record.specs.Number.{number_in}
 use Rattle.record.specs.Record.{Rec, whole}
 use Rattle.record.proofs.Place.{Stands}
@@ -17,8 +18,7 @@ use Rattle.record.proofs.Cut.{body_at}
 use Rattle.record.specs.Walk.{read_at}
 use Rattle.journal.specs.Journal.{Author, NoPerson, Person, by, front_length, edit_in, read_edit}
 use Rattle.journal.specs.Walk.{edit_at, ReadsBytes, Reads}
-use Rattle.journal.specs.declared.Next.{Next}
-use Rattle.journal.specs.declared.Next.TheVariants as next
+use Rattle.journal.specs.declared.Record.{Record}
 
 -- ---- a record
 
@@ -113,10 +113,7 @@ module _ {s : List ℕ} {at kind end : ℕ} (r : Stands s at kind end) where
 
   -- what is read of the edit's bytes, by its author
   pub reads-by : (author : Author) (from : ℕ) → edit_at s at ≡ option_map (by author) (edit_in (part from end s)) → from + 12 ≡ at + front_length author
-      → (x : Next) → ReadsBytes s at from end x → Reads s at x
-  reads-by author from e h next.Damaged w = (omega (arith, r.head-inside, r.inside), e ∙ ap (option_map (by author)) w)
-  reads-by author from e h next.Nothing w = absurd w
-  reads-by author from e h (next.Edit start place old new end₁) (a, b, w, head, o, n) = (
-    a,
-    record { author = author; edit = e ∙ ap (option_map (by author)) w; head = omega arith; old_bytes = o; new_bytes = n; inside = omega (arith, r.inside) },
-  )
+      → (x : Answer Record) → ReadsBytes s at from end x → Reads s at (then Some x)
+  reads-by author from e h (Err f) (d, w) = (d, omega (arith, r.head-inside, r.inside), e ∙ ap (option_map (by author)) w)
+  reads-by author from e h (Ok x) (a, b, w, head, o, n) =
+      record { author = author; starts = a; edit = e ∙ ap (option_map (by author)) w; head = omega arith; old_bytes = o; new_bytes = n; inside = omega (arith, r.inside) }

@@ -9,37 +9,37 @@ use native.Mathlib.Omega.{arith}
 use borrow.Author.Tests.{le-leb, lt-leb, ne_eqb}
 use lib.ListN.{length, drop}
 use Rattle.base.specs.Choice.{maybe, there}
-use Rattle.base.specs.Lists.{part}
 use Rattle.base.proofs.Lists.{length_part}
 use Rattle.base.proofs.Tests.{no}
 use Rattle.record.specs.Record.{length_at}
 use Rattle.record.proofs.Each.{each-done, each-damaged}
 use Rattle.splice.specs.Edit.{Edit}
 use Rattle.journal.specs.Journal.{Authored, by, edit_length, read_edit, parted_at, read_journal, next_of}
-use Rattle.journal.specs.Walk.{edit_at, HoldsEdit, edits, Latest, Parted}
+use Rattle.journal.specs.Walk.{with_bytes, edit_at, HoldsEdit, edits, Latest, Parted}
+use Rattle.journal.specs.declared.Record.{Record}
 use Rattle.journal.proofs.Records.{front-least, parted-here}
 use Rattle.journal.proofs.Edits.{at_length, journal-by, edits-step, edits-first}
 
 -- ---- a record that was read
 
-module _ {s : List ℕ} {at place old new end : ℕ} (r : HoldsEdit s at place old new end) where
+module _ {s : List ℕ} {at : ℕ} {x : Record} (r : HoldsEdit s at x) where
   -- the edit that an answer names, and its author
   abbrev pub authored : Authored Edit
-  authored = by r.author (record { place = place; old = part old new s; new = part new end s })
+  authored = by r.author (with_bytes s x)
 
-  pub authored-length : at + edit_length authored ≡ end
-  authored-length = omega (arith, r.head, length_part old new s (omega (arith, r.new_bytes, r.inside)), length_part new end s r.inside, r.old_bytes, r.new_bytes)
+  pub authored-length : at + edit_length authored ≡ x.end
+  authored-length = omega (arith, r.head, length_part x.old x.new s (omega (arith, r.new_bytes, r.inside)), length_part x.new x.end s r.inside, r.old_bytes, r.new_bytes)
 
   -- it is not empty
-  pub further : at < end
+  pub further : at < x.end
   further = omega (arith, authored-length, front-least r.author)
 
   -- it ends where its length says
-  pub ends-record : end ≡ at + length_at (drop at s)
+  pub ends-record : x.end ≡ at + length_at (drop at s)
   ends-record = omega (arith, authored-length, at_length s at r.edit)
 
   -- those from its end on are left
-  pub edits-behind : edits (drop at s) ≡ option_map (λ es. authored ∷ es) (edits (drop end s))
+  pub edits-behind : edits (drop at s) ≡ option_map (λ es. authored ∷ es) (edits (drop x.end s))
   edits-behind = edits-step s at r.edit ∙ rw authored-length
 
 -- ---- the records that stand
@@ -79,20 +79,20 @@ module _ {s : List ℕ} {standing at last : ℕ} (w : Walking s standing at last
   pub walk-short : at < standing → length s ≤ at → read_journal s standing ≡ None
   walk-short h k = w.same ∙ rw (each-done read_edit s at k) (parted-short (standing - at) w.stand (omega arith))
 
-  module _ {place old new end : ℕ} (r : HoldsEdit s at place old new end) where
-    pub walk-beyond : at < standing → standing < end → read_journal s standing ≡ None
+  module _ {x : Record} (r : HoldsEdit s at x) where
+    pub walk-beyond : at < standing → standing < x.end → read_journal s standing ≡ None
     walk-beyond h k =
-        w.same ∙ rw (edits-behind r) (parted-beyond (standing - at) w.stand (authored r) (edits (drop end s)) (omega arith) (omega (arith, authored-length r)))
+        w.same ∙ rw (edits-behind r) (parted-beyond (standing - at) w.stand (authored r) (edits (drop x.end s)) (omega arith) (omega (arith, authored-length r)))
 
-    pub walk-next : end ≤ standing → Walking s standing end at
+    pub walk-next : x.end ≤ standing → Walking s standing x.end at
     walk-next k =
         let e : Authored Edit = authored r in
         let l = authored-length r in
-        let n : standing - at - edit_length e ≡ standing - end = omega arith in
+        let n : standing - at - edit_length e ≡ standing - x.end = omega arith in
         record {
           stand = e ∷ w.stand;
           below = k;
-          same = w.same ∙ rw (edits-behind r, parted-next (standing - at) w.stand e (edits (drop end s)) (omega arith), n);
+          same = w.same ∙ rw (edits-behind r, parted-next (standing - at) w.stand e (edits (drop x.end s)) (omega arith), n);
           top = (r.edit, l);
         }
 

@@ -1,14 +1,11 @@
 -- The person of a record, and forgetting the oldest edits: calls to which the journal alone is lent (02, A9 and A10). Assumes nothing.
-use Rattle.std.specs.Prelude.{◌≡◌, ℕ, ◌-◌, Bool, ◌&&◌, List, length, take, drop, leb, Ok, Err, slice_get}
+use Rattle.std.specs.Prelude.{◌≡◌, ℕ, ◌-◌, Bool, ◌&&◌, List, length, take, drop, leb, Ok, slice_get}
 use Rattle.base.specs.Bounds.{journal_most}
 use Rattle.fault.specs.declared.Fault.TheVariants.{Damaged, NothingLeft}
 use Rattle.fault.specs.Answer.{Answer, ◌>>=◌, need, some_or, then, at_exit}
 use Rattle.splice.specs.Edit.{buffer_with}
 use Rattle.journal.specs.Journal.{Authored, person_of, lengths, Journal, oldest, in_order, read_journal}
-use Rattle.journal.specs.declared.Named.{Named}
-use Rattle.journal.specs.declared.Named.TheVariants as named
 use Rattle.journal.specs.declared.Forgot.{Forgot}
-use Rattle.journal.specs.declared.Forgot.TheVariants as forgot
 
 -- what is lent: the journal's buffer, bytes used and bytes standing
 pub record Lent : Type 0 where
@@ -50,11 +47,6 @@ person s n = do
   j ← opened s
   person_in (in_order j) n
 
--- what an answer says
-abbrev pub answered : Named → Answer ℕ
-answered (named.Person n) = Ok n
-answered (named.Refused f) = Err f
-
 -- ---- forgetting
 
 -- without so many bytes at the front: the others move there, zeros stand up to the old used length, and both numbers fall
@@ -69,11 +61,10 @@ forget s k = do
   Ok (without (lengths (oldest k j.stand)) s)
 
 -- what an answer says, with the bytes left in the buffer
-abbrev pub left_in : List ℕ → Forgot → Answer Lent
-left_in journal (forgot.Done used standing) = Ok (lent journal used standing)
-left_in journal (forgot.Refused f) = Err f
+abbrev pub left_in : List ℕ → Answer Forgot → Answer Lent
+left_in journal r = then (λ n. lent journal n.used n.standing) r
 
 -- a call that answers so and leaves these bytes in the buffer
-pub record Forgets (s : Lent) (k : ℕ) (r : Forgot) (journal : List ℕ) : Type 0 where
+pub record Forgets (s : Lent) (k : ℕ) (r : Answer Forgot) (journal : List ℕ) : Type 0 where
   pub answer : left_in journal r ≡ forget s k
   pub journal_is : journal ≡ (at_exit s (forget s k)).journal

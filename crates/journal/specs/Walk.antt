@@ -8,17 +8,10 @@ use Rattle.record.specs.Record.{head_bytes, read_records}
 use Rattle.record.specs.Walk.{read_at}
 use Rattle.splice.specs.Edit.{Edit}
 use Rattle.journal.specs.Journal.{Author, Authored, by, kind_of, author_bytes, front_length, edit_length, lengths, Journal, oldest, edit_in, read_edit, read_journal, next_of}
-use Rattle.journal.specs.Lent as lent
 use Rattle.journal.specs.Lent.{person_in}
-use Rattle.journal.specs.declared.Oldest.{Oldest}
-use Rattle.journal.specs.declared.Oldest.TheVariants.{End, Fewer}
-use Rattle.journal.specs.declared.Named.{Named}
 use Rattle.journal.specs.declared.Way.{Way}
 use Rattle.journal.specs.declared.Way.TheVariants as way
-use Rattle.journal.specs.declared.Next.{Next}
-use Rattle.journal.specs.declared.Next.TheVariants as next
-use Rattle.journal.specs.declared.Walked.{Walked}
-use Rattle.journal.specs.declared.Walked.TheVariants as walked
+use Rattle.journal.specs.declared.Record.{Record}
 
 -- ---- answers
 
@@ -35,11 +28,13 @@ ending_at at e = record { start = at - edit_length e; end = at; edit = e.what }
 abbrev pub starting_at : ℕ → Authored Edit → Placed
 starting_at at e = record { start = at; end = at + edit_length e; edit = e.what }
 
+-- the edit of a record, with its bytes among those used
+abbrev pub with_bytes : List ℕ → Record → Edit
+with_bytes used r = record { place = r.place; old = part r.old r.new used; new = part r.new r.end used }
+
 -- the edit that an answer names in the used bytes, and where its record begins and ends
-abbrev pub placed : List ℕ → Next → Answer Placed
-placed used next.Damaged = Err Damaged
-placed used next.Nothing = Err NothingLeft
-placed used (next.Edit start place old new end) = Ok (record { start = start; end = end; edit = record { place = place; old = part old new used; new = part new end used } })
+abbrev pub placed : List ℕ → Answer Record → Answer Placed
+placed used a = then (λ r. record { start = r.start; end = r.end; edit = with_bytes used r }) a
 
 -- the latest edit that stands
 abbrev pub latest : List ℕ → ℕ → Answer Placed
@@ -55,10 +50,9 @@ next_on way.Undo used standing = latest used standing
 next_on way.Redo used standing = waiting used standing
 
 -- the old and new bytes that an answer names stand one after the other among so many
-abbrev pub Within : ℕ → Next → Type 0
-Within size (next.Edit start place old new end) = (old ≤ new) × (new ≤ end) × (end ≤ size)
-Within size next.Damaged = Unit
-Within size next.Nothing = Unit
+abbrev pub Within : ℕ → Answer Record → Type 0
+Within size (Ok r) = (r.old ≤ r.new) × (r.new ≤ r.end) × (r.end ≤ size)
+Within size (Err f) = Unit
 
 -- ---- writing
 
@@ -75,28 +69,26 @@ abbrev pub edit_at : List ℕ → ℕ → Option (Authored Edit)
 edit_at s at = read_at read_edit s at
 
 -- what is read of an edit's bytes, which stand from a place up to the record's end; where the record starts is handed on
-abbrev pub ReadsBytes : List ℕ → (start from end : ℕ) → Next → Type 0
-ReadsBytes s start from end next.Damaged = edit_in (part from end s) ≡ None
-ReadsBytes s start from end next.Nothing = ⊥
-ReadsBytes s start from end (next.Edit start₁ place old new end₁) =
-    (start₁ ≡ start) × (end₁ ≡ end)
-    × (edit_in (part from end s) ≡ Some (record { place = place; old = part old new s; new = part new end₁ s }))
-    × (old ≡ from + 12) × (old ≤ new) × (new ≤ end₁)
+abbrev pub ReadsBytes : List ℕ → (start from end : ℕ) → Answer Record → Type 0
+ReadsBytes s start from end (Err f) = (f ≡ Damaged) × (edit_in (part from end s) ≡ None)
+ReadsBytes s start from end (Ok r) =
+    (r.start ≡ start) × (r.end ≡ end) × (edit_in (part from end s) ≡ Some (with_bytes s r)) × (r.old ≡ from + 12) × (r.old ≤ r.new) × (r.new ≤ r.end)
 
 -- the record at a place holds an edit, whose old and new bytes stand one after the other up to its end
-pub record HoldsEdit (s : List ℕ) (at place old new end : ℕ) : Type 0 where
+pub record HoldsEdit (s : List ℕ) (at : ℕ) (r : Record) : Type 0 where
   pub author : Author
-  pub edit : edit_at s at ≡ Some (by author (record { place = place; old = part old new s; new = part new end s }))
-  pub head : old ≡ at + front_length author
-  pub old_bytes : old ≤ new
-  pub new_bytes : new ≤ end
-  pub inside : end ≤ length s
+  pub starts : r.start ≡ at
+  pub edit : edit_at s at ≡ Some (by author (with_bytes s r))
+  pub head : r.old ≡ at + front_length author
+  pub old_bytes : r.old ≤ r.new
+  pub new_bytes : r.new ≤ r.end
+  pub inside : r.end ≤ length s
 
 -- what is read at a place: an edit, none though there are bytes, or the end
-abbrev pub Reads : List ℕ → ℕ → Next → Type 0
-Reads s at next.Damaged = (at < length s) × (edit_at s at ≡ None)
-Reads s at next.Nothing = length s ≤ at
-Reads s at (next.Edit start place old new end) = (start ≡ at) × HoldsEdit s at place old new end
+abbrev pub Reads : List ℕ → ℕ → Answer (Option Record) → Type 0
+Reads s at (Err f) = (f ≡ Damaged) × (at < length s) × (edit_at s at ≡ None)
+Reads s at (Ok None) = length s ≤ at
+Reads s at (Ok (Some r)) = HoldsEdit s at r
 
 -- ---- all records
 
@@ -122,19 +114,19 @@ pub record Parted (s : List ℕ) (standing last : ℕ) : Type 0 where
   pub next_at : Follows s standing (next_of journal.wait)
 
 -- what a walk over the records finds
-abbrev pub Walks : List ℕ → ℕ → Walked → Type 0
-Walks s standing walked.Damaged = read_journal s standing ≡ None
-Walks s standing (walked.Sound last) = Parted s standing last
+abbrev pub Walks : List ℕ → ℕ → Answer ℕ → Type 0
+Walks s standing (Err f) = (f ≡ Damaged) × (read_journal s standing ≡ None)
+Walks s standing (Ok last) = Parted s standing last
 
 -- what is told of the n-th record
-abbrev pub TellsPerson : List ℕ → ℕ → Named → Type 0
-TellsPerson s n r = (es : List (Authored Edit)) → edits s ≡ Some es → lent.answered r ≡ person_in es n
+abbrev pub TellsPerson : List ℕ → ℕ → Answer ℕ → Type 0
+TellsPerson s n r = (es : List (Authored Edit)) → edits s ≡ Some es → r ≡ person_in es n
 
 -- where the records of the oldest k of those that stand end, or that fewer stand
-abbrev pub OldestIn : List (Authored Edit) → ℕ → Oldest → Type 0
-OldestIn stand k (End n) = (k ≤ length stand) × (n ≡ lengths (oldest k stand))
-OldestIn stand k Fewer = length stand < k
+abbrev pub OldestIn : List (Authored Edit) → ℕ → Option ℕ → Type 0
+OldestIn stand k (Some n) = (k ≤ length stand) × (n ≡ lengths (oldest k stand))
+OldestIn stand k None = length stand < k
 
 -- so of the bytes of a sound journal
-abbrev pub EndsOldest : List ℕ → ℕ → ℕ → Oldest → Type 0
+abbrev pub EndsOldest : List ℕ → ℕ → ℕ → Option ℕ → Type 0
 EndsOldest s standing k r = (j : Journal) → read_journal s standing ≡ Some j → OldestIn j.stand k r

@@ -1,7 +1,7 @@
 // The journal of edits, who made them, and forgetting the oldest.
 #![tactic(auto)]
 
-ghost use Rattle.std.specs.Prelude.{◌≡◌, true, ◌++◌, ◌+◌, ◌≤◌, length, drop, Ok};
+ghost use Rattle.std.specs.Prelude.{◌≡◌, true, ◌++◌, ◌+◌, ◌≤◌, length, drop};
 ghost use Rattle.base.specs.Choice.{there};
 ghost use Rattle.base.specs.Over.{over};
 ghost use Rattle.fault.specs.Answer.{accepted};
@@ -22,92 +22,67 @@ pub enum Way {
     Redo,
 }
 
-// An edit from the journal: where its record starts, its place, where its old bytes start, where its new bytes start and where its record ends.
+// The record of an edit in a journal: where it starts, the edit's place, where the old bytes start, where the new bytes start and where it ends.
 #[derive(Clone, Copy)]
-pub enum Next {
-    Damaged,
-    Nothing,
-    Edit {
-        start: usize,
-        place: usize,
-        old: usize,
-        new: usize,
-        end: usize,
-    },
+pub struct Record {
+    pub start: usize,
+    pub place: usize,
+    pub old: usize,
+    pub new: usize,
+    pub end: usize,
 }
 
-// Where the latest record that stands begins, in a sound journal; 0 where none stands.
+// The journal's two numbers after forgetting.
 #[derive(Clone, Copy)]
-enum Walked {
-    Damaged,
-    Sound { last: usize },
+pub struct Forgot {
+    pub used: usize,
+    pub standing: usize,
 }
 
-// Who made an edit: a person's number, 0 where nobody is named, or a refusal.
-#[derive(Clone, Copy)]
-pub enum Named {
-    Person(u16),
-    Refused(Fault),
-}
-
-// Where the oldest records end, or that fewer stand.
-#[derive(Clone, Copy)]
-enum Oldest {
-    End(usize),
-    Fewer,
-}
-
-// The two numbers after forgetting, or a refusal.
-#[derive(Clone, Copy)]
-pub enum Forgot {
-    Done { used: usize, standing: usize },
-    Refused(Fault),
-}
-
-// The edit in a record's bytes from a place up to its end.
-fn read_parts(used: &[u8], start: usize, from: usize, end: usize) -> Next
+// The edit in the bytes of a record from a place up to its end, unless they are damaged.
+fn read_parts(used: &[u8], start: usize, from: usize, end: usize) -> Result<Record, Fault>
     requires { (from ≤ end) × (end ≤ length used.now) }
     ensures { ReadsBytes used.now start from end result }
 {
     let size = end - from;
     if size < 12 {
-        return Next::Damaged;
+        return Err(Fault::Damaged);
     }
     let old = record::number::<4>(used, from + 4);
     let new = record::number::<4>(used, from + 8);
     if size != 12 + old + new {
-        return Next::Damaged;
+        return Err(Fault::Damaged);
     }
     let place = record::number::<4>(used, from);
-    Next::Edit {
+    Ok(Record {
         start,
         place,
         old: from + 12,
         new: from + 12 + old,
         end,
-    }
+    })
 }
 
-// The edit in the record at a place, of kind 1 or behind a person's two bytes in one of kind 4; at the end there is nothing.
-fn read_edit(used: &[u8], at: usize) -> Next
+// The edit in the record at a place, of kind 1 or behind a person's two bytes in one of kind 4; none at the end.
+fn read_edit(used: &[u8], at: usize) -> Result<Option<Record>, Fault>
     ensures { Reads used.now at result }
 {
     if used.len() <= at {
-        return Next::Nothing;
+        return Ok(None);
     }
     let Some(Front { kind, end }) = record::read(used, at) else {
-        return Next::Damaged;
+        return Err(Fault::Damaged);
     };
     if kind == 1 {
-        return read_parts(used, at, at + HEAD, end);
+        return Ok(Some(read_parts(used, at, at + HEAD, end)?));
     }
     if kind != 4 {
-        return Next::Damaged;
+        return Err(Fault::Damaged);
     }
     if end < at + 8 {
-        return Next::Damaged;
+        return Err(Fault::Damaged);
     }
-    read_parts(used, at, at + 8, end)
+    Ok(Some(read_parts(used, at, at + 8, end)?))
 }
 
 // Whether the records of edits fill the bytes from a place on.
@@ -117,95 +92,64 @@ fn filled(used: &[u8], from: usize) -> bool
     let mut at = from;
     loop {
         match read_edit(used, at) {
-            Next::Damaged => {
-                return false;
-            }
-            Next::Nothing => {
-                return true;
-            }
-            Next::Edit {
-                start: _,
-                place: _,
-                old: _,
-                new: _,
-                end,
-            } => {
-                at = end;
-            }
+            Err(_) => return false,
+            Ok(None) => return true,
+            Ok(Some(record)) => at = record.end,
         }
     }
 }
 
-// All records, each once: those that stand, then those that wait.
-fn walk(used: &[u8], standing: usize) -> Walked
+// All records, each once: those that stand, then those that wait. The answer is where the latest that stands begins; 0 where none stands.
+fn walk(used: &[u8], standing: usize) -> Result<usize, Fault>
     ensures { Walks used.now standing result }
 {
     let mut at: usize = 0;
     let mut last: usize = 0;
     while at < standing {
-        match read_edit(used, at) {
-            Next::Damaged => {
-                return Walked::Damaged;
-            }
-            Next::Nothing => {
-                return Walked::Damaged;
-            }
-            Next::Edit {
-                start: _,
-                place: _,
-                old: _,
-                new: _,
-                end,
-            } => {
-                if standing < end {
-                    return Walked::Damaged;
-                }
-                last = at;
-                at = end;
-            }
+        let Some(Record { end, .. }) = read_edit(used, at)? else {
+            return Err(Fault::Damaged);
+        };
+        if standing < end {
+            return Err(Fault::Damaged);
         }
+        last = at;
+        at = end;
     }
     if filled(used, standing) {
-        return Walked::Sound { last };
+        return Ok(last);
     }
-    Walked::Damaged
+    Err(Fault::Damaged)
 }
 
 // Whether the used bytes are a journal of which so many stand.
 pub fn sound(used: &[u8], standing: usize) -> bool
     ensures { result ≡ there (read_journal used.now standing) }
 {
-    match walk(used, standing) {
-        Walked::Damaged => false,
-        Walked::Sound { last: _ } => true,
-    }
+    walk(used, standing).is_ok()
 }
 
 // The latest edit that stands: what an undo takes back.
-fn last_standing(used: &[u8], standing: usize) -> Next
+fn last_standing(used: &[u8], standing: usize) -> Result<Record, Fault>
     ensures { (placed used.now result ≡ latest used.now standing) × Within (length used.now) result }
 {
-    let Walked::Sound { last } = walk(used, standing) else {
-        return Next::Damaged;
-    };
+    let last = walk(used, standing)?;
     if standing == 0 {
-        return Next::Nothing;
+        Err(Fault::NothingLeft)
+    } else {
+        read_edit(used, last)?.ok_or(Fault::NothingLeft)
     }
-    read_edit(used, last)
 }
 
 // The next edit that waits: what a redo makes again.
-fn first_waiting(used: &[u8], standing: usize) -> Next
+fn first_waiting(used: &[u8], standing: usize) -> Result<Record, Fault>
     ensures { (placed used.now result ≡ waiting used.now standing) × Within (length used.now) result }
 {
-    let Walked::Sound { last: _ } = walk(used, standing) else {
-        return Next::Damaged;
-    };
-    read_edit(used, standing)
+    walk(used, standing)?;
+    read_edit(used, standing)?.ok_or(Fault::NothingLeft)
 }
 
 // The edit that comes next on the way.
-pub fn next_on(used: &[u8], standing: usize, way: Way) -> Next
+pub fn next_on(used: &[u8], standing: usize, way: Way) -> Result<Record, Fault>
     ensures { (placed used.now result ≡ next_on way used.now standing) × Within (length used.now) result }
 {
     match way {
@@ -249,87 +193,77 @@ pub fn put_front(out: &mut [u8], at: usize, person: u16, place: usize, old: &[u8
 pub fn fits(journal: &[u8], used: usize, standing: usize) -> bool
     ensures { result ≡ lent.numbers_fit (lent.lent journal.now used standing) }
 {
-    if journal.len() < used {
-        return false;
-    }
-    if base::JOURNAL_MOST < used {
-        return false;
-    }
-    standing <= used
+    used <= journal.len() && used <= base::JOURNAL_MOST && standing <= used
 }
 
-// The person in the n-th record of a journal that is sound.
-fn person_in(used: &[u8], n: usize) -> Named
+// The person in the n-th record of a journal that is sound, or 0 where it names nobody.
+fn person_in(used: &[u8], n: usize) -> Result<u16, Fault>
     requires { there (edits used.now) ≡ true }
     ensures { TellsPerson used.now n result }
 {
     let Some(Bounds { from, .. }) = record::nth(used, n) else {
-        return Named::Refused(Fault::NothingLeft);
+        return Err(Fault::NothingLeft);
     };
     if record::number::<2>(used, from - 2) == 4 {
-        return Named::Person(record::number::<2>(used, from) as u16);
+        return Ok(record::number::<2>(used, from) as u16);
     }
-    Named::Person(0)
+    Ok(0)
 }
 
 // Whether the numbers fit and the journal is sound.
 fn opens(journal: &[u8], used: usize, standing: usize) -> bool
     ensures { result ≡ accepted (lent.opened (lent.lent journal.now used standing)) }
 {
-    if !fits(journal, used, standing) {
-        return false;
-    }
-    sound(&journal[..used], standing)
+    fits(journal, used, standing) && sound(&journal[..used], standing)
 }
 
-// The person of record n, from 0, standing or waiting. Refusals: 14 for the numbers and the journal, 12 without such a record.
-pub fn person(journal: &[u8], used: usize, standing: usize, n: usize) -> Named
-    ensures { lent.answered result ≡ lent.person (lent.lent journal.now used standing) n }
+// The person of record n, from 0, standing or waiting; 0 where it names nobody. Refusals: 14 for the numbers and the journal, 12 without such
+// a record.
+pub fn person(journal: &[u8], used: usize, standing: usize, n: usize) -> Result<u16, Fault>
+    ensures { result ≡ lent.person (lent.lent journal.now used standing) n }
 {
     if !opens(journal, used, standing) {
-        return Named::Refused(Fault::Damaged);
+        return Err(Fault::Damaged);
     }
     person_in(&journal[..used], n)
 }
 
-// Where the oldest k records that stand end, in a journal that is sound.
-fn oldest_end(used: &[u8], standing: usize, k: usize) -> Oldest
+// Where the oldest k records that stand end, in a journal that is sound; none if fewer stand.
+fn oldest_end(used: &[u8], standing: usize, k: usize) -> Option<usize>
     requires { there (read_journal used.now standing) ≡ true }
     ensures { EndsOldest used.now standing k result }
 {
     if k == 0 {
-        return Oldest::End(0);
+        return Some(0);
     }
     let Some(Bounds { to, .. }) = record::nth(used, k - 1) else {
-        return Oldest::Fewer;
+        return None;
     };
     if standing < to {
-        return Oldest::Fewer;
+        return None;
     }
-    Oldest::End(to)
+    Some(to)
 }
 
 // So many bytes go at the journal's front, of those that stand.
 fn drop_front(journal: &mut [u8], used: usize, standing: usize, gone: usize) -> Forgot
     requires { (gone ≤ standing) × (standing ≤ used) × (used ≤ length journal.old) }
-    ensures { lent.left_in journal.new result ≡ Ok (lent.without gone (lent.lent journal.old used standing)) }
+    ensures { lent.lent journal.new result.used result.standing ≡ lent.without gone (lent.lent journal.old used standing) }
 {
     splice::replace(journal, used, 0, gone, b"");
-    Forgot::Done {
+    Forgot {
         used: used - gone,
         standing: standing - gone,
     }
 }
 
 // The oldest k records that stand go, and all others move to the front. Refusals: 14 for the numbers and the journal, 12 if fewer stand.
-pub fn forget(journal: &mut [u8], used: usize, standing: usize, k: usize) -> Forgot
+pub fn forget(journal: &mut [u8], used: usize, standing: usize, k: usize) -> Result<Forgot, Fault>
     ensures { lent.Forgets (lent.lent journal.old used standing) k result journal.new }
 {
     if !opens(journal, used, standing) {
-        return Forgot::Refused(Fault::Damaged);
+        return Err(Fault::Damaged);
     }
-    let Oldest::End(gone) = oldest_end(&journal[..used], standing, k) else {
-        return Forgot::Refused(Fault::NothingLeft);
-    };
-    drop_front(journal, used, standing, gone)
+    let gone = oldest_end(&journal[..used], standing, k).ok_or(Fault::NothingLeft)?;
+    Ok(drop_front(journal, used, standing, gone))
 }

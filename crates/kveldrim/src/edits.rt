@@ -7,8 +7,6 @@ ghost use Rattle.edit.specs.Calls.{request, undo, redo, lent};
 ghost use Rattle.batch.specs.Batch as batch;
 ghost use Rattle.abi.specs.Abi.{ReturnedNumber, Called, CalledBatch, CalledOnJournal};
 
-use journal::Forgot;
-
 #[unsafe(no_mangle)]
 pub extern "C" fn kveldrim_set(
     file: &mut [u8],
@@ -157,16 +155,13 @@ pub extern "C" fn kveldrim_forget(
     let n = *standing as usize;
     let oldest = k as usize;
     match journal::forget(journal, u, n, oldest) {
-        Forgot::Done {
-            used: u1,
-            standing: n1,
-        } => {
+        Ok(left) => {
             *place = 0;
-            *used = u1 as u64;
-            *standing = n1 as u64;
+            *used = left.used as u64;
+            *standing = left.standing as u64;
             0
         }
-        Forgot::Refused(f) => {
+        Err(f) => {
             let mut byte = 0;
             abi::refuse(f, place, &mut byte)
         }

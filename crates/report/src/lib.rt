@@ -7,7 +7,7 @@ use batch::Batched;
 use edit::Edited;
 use entry::Ends;
 use fault::Fault;
-use journal::{Forgot, Named};
+use journal::Forgot;
 use std::io;
 use wellformed::Checked;
 
@@ -144,6 +144,12 @@ fn say_numbers(rt: &impl Print, used: usize, standing: usize) -> io::Result<()> 
     say_number(rt, standing)
 }
 
+fn say_left(rt: &impl Print, left: Edited) -> io::Result<()> {
+    say_number(rt, left.size)?;
+    say(rt, b" bytes, ")?;
+    say_numbers(rt, left.used, left.standing)
+}
+
 fn say_buffers(rt: &impl Print, file: &[u8], journal: &[u8]) -> io::Result<()> {
     say(rt, b", ")?;
     quote(rt, file)?;
@@ -153,86 +159,59 @@ fn say_buffers(rt: &impl Print, file: &[u8], journal: &[u8]) -> io::Result<()> {
 }
 
 // The answer of a call that edits, and both buffers.
-pub fn tell_edited(rt: &impl Print, e: Edited, file: &[u8], journal: &[u8]) -> io::Result<()> {
+pub fn tell_edited(
+    rt: &impl Print,
+    e: Result<Edited, Fault>,
+    file: &[u8],
+    journal: &[u8],
+) -> io::Result<()> {
     match e {
-        Edited::Done {
-            size,
-            used,
-            standing,
-        } => {
+        Ok(left) => {
             say(rt, b": ")?;
-            say_number(rt, size)?;
-            say(rt, b" bytes, ")?;
-            say_numbers(rt, used, standing)?;
+            say_left(rt, left)?;
         }
-        Edited::Refused(f) => say_refused(rt, f)?,
+        Err(f) => say_refused(rt, f)?,
     }
     say_buffers(rt, file, journal)
 }
 
 // The answer of the call for a person.
-pub fn tell_named(rt: &impl Print, n: Named) -> io::Result<()> {
-    match n {
-        Named::Person(p) => {
+pub fn tell_named(rt: &impl Print, p: Result<u16, Fault>) -> io::Result<()> {
+    match p {
+        Ok(number) => {
             say(rt, b": ")?;
-            say_number(rt, p as usize)?;
+            say_number(rt, number as usize)?;
         }
-        Named::Refused(f) => say_refused(rt, f)?,
+        Err(f) => say_refused(rt, f)?,
     }
     say(rt, b"\n")
 }
 
 // The answer of the call that forgets, and the journal's buffer.
-pub fn tell_forgot(rt: &impl Print, f: Forgot, journal: &[u8]) -> io::Result<()> {
+pub fn tell_forgot(rt: &impl Print, f: Result<Forgot, Fault>, journal: &[u8]) -> io::Result<()> {
     match f {
-        Forgot::Done { used, standing } => {
+        Ok(left) => {
             say(rt, b": ")?;
-            say_numbers(rt, used, standing)?;
+            say_numbers(rt, left.used, left.standing)?;
         }
-        Forgot::Refused(fault) => say_refused(rt, fault)?,
+        Err(fault) => say_refused(rt, fault)?,
     }
     say(rt, b",")?;
     spaced_bytes(rt, journal)?;
     say(rt, b"\n")
 }
 
-fn say_left(
-    rt: &impl Print,
-    done: usize,
-    size: usize,
-    used: usize,
-    standing: usize,
-) -> io::Result<()> {
-    say_number(rt, done)?;
-    say(rt, b" done, ")?;
-    say_number(rt, size)?;
-    say(rt, b" bytes, ")?;
-    say_numbers(rt, used, standing)
-}
-
 // The answer of a batch, and both buffers.
 pub fn tell_batched(rt: &impl Print, b: Batched, file: &[u8], journal: &[u8]) -> io::Result<()> {
-    match b {
-        Batched::All {
-            done,
-            size,
-            used,
-            standing,
-        } => {
-            say(rt, b": ")?;
-            say_left(rt, done, size, used, standing)?;
-        }
-        Batched::Stopped {
-            fault,
-            done,
-            size,
-            used,
-            standing,
-        } => {
-            say_refused(rt, fault)?;
+    match b.stopped {
+        None => say(rt, b": ")?,
+        Some(f) => {
+            say_refused(rt, f)?;
             say(rt, b", ")?;
-            say_left(rt, done, size, used, standing)?;
         }
     }
+    say_number(rt, b.done)?;
+    say(rt, b" done, ")?;
+    say_left(rt, b.left)?;
     say_buffers(rt, file, journal)
 }

@@ -2,10 +2,10 @@
 use mathlib.Core.Path.{refl}
 use Rattle.abi.proofs.tell_batched.Goals as goal
 
-pub returns-in-All : goal.returns-in-All
-returns-in-All c file journal = rw c.in-All.is (record { returned = record { code_is = refl; place_is = refl; byte_is = refl }; done_is = refl; left = refl })
+pub returns-in-None : goal.returns-in-None
+returns-in-None c file journal = rw c.in-None.is (record { returned = record { code_is = refl; place_is = refl; byte_is = refl }; done_is = refl; left = refl })
 
-pub returns-in-Stopped : goal.returns-in-Stopped
-returns-in-Stopped c file journal =
-    rw c.in-Stopped.is
+pub returns-in-Some : goal.returns-in-Some
+returns-in-Some c file journal =
+    rw c.in-Some.is
     (record { returned = record { code_is = c.refuse.ensures.0; place_is = c.refuse.ensures.1; byte_is = c.refuse.ensures.2 }; done_is = refl; left = refl })

@@ -21,13 +21,12 @@ pub returns-in_default : goal.returns-in_default
 returns-in_default c =
     run-damaged c.loop-at.invariant.0 c.loop-at-test.true (front-damaged _ _ (sym c.read.ensures ∙ c.in_default.is))
 
-pub returns-in-Refused : goal.returns-in-Refused
-returns-in-Refused c =
-    record { is = run-stopped c.loop-at.invariant.0 (stands (goal.at.returns-in-Refused c).In-Some) (rw c.in-Refused.is at c.make.ensures) }
+pub returns-in-Err : goal.returns-in-Err
+returns-in-Err c = record { is = run-stopped c.loop-at.invariant.0 (stands (goal.at.returns-in-Err c).In-Some) c.in-Err.ensures }
 
 pub loop-at-preserved : goal.loop-at-preserved
 loop-at-preserved c =
-    (run-next c.loop-at.invariant.0 (stands (goal.at.loop-at-preserved c).In-Some) (search rules) (rw c.in-Done.is at c.make.ensures), search rules, search rules)
+    (run-next c.loop-at.invariant.0 (stands (goal.at.loop-at-preserved c).In-Some) (search rules) c.in-Ok.ensures, search rules, search rules)
 
 pub returns : goal.returns
 returns c = record { is = run-done c.loop-at.invariant.0 c.loop-at-test.false }
@@ -41,17 +40,17 @@ shape_of-journal-in_default c = c.loop-at.invariant.2
 pub overflow_add-from : goal.overflow_add-from
 overflow_add-from c = let r = stands (goal.at.overflow_add-from c).In-Some in omega arith
 
-pub slice_bounds-make-count : goal.slice_bounds-make-count
-slice_bounds-make-count c = (stands (goal.at.slice_bounds-make-count c).In-Some).head-inside
+pub slice_bounds-body-count : goal.slice_bounds-body-count
+slice_bounds-body-count c = (stands (goal.at.slice_bounds-body-count c).In-Some).head-inside
 
-pub slice_bounds-make-start : goal.slice_bounds-make-start
-slice_bounds-make-start c = (stands (goal.at.slice_bounds-make-start c).In-Some).head-inside
+pub slice_bounds-body-start : goal.slice_bounds-body-start
+slice_bounds-body-start c = (stands (goal.at.slice_bounds-body-start c).In-Some).head-inside
 
-pub slice_bounds-make-end : goal.slice_bounds-make-end
-slice_bounds-make-end c = (stands (goal.at.slice_bounds-make-end c).In-Some).inside
+pub slice_bounds-body-end : goal.slice_bounds-body-end
+slice_bounds-body-end c = (stands (goal.at.slice_bounds-body-end c).In-Some).inside
 
 pub make-requires : goal.make-requires
-make-requires c = (opened-fits (lent c.loop-at.file c.loop-at.length c.loop-at.journal c.loop-at.u c.loop-at.n) (rw c.loop-at.invariant.0.opens)).ready
+make-requires c = (opened-fits (lent c.loop-at.file c.loop-at.left.size c.loop-at.journal c.loop-at.left.used c.loop-at.left.standing) (rw c.loop-at.invariant.0.opens)).ready
 
 pub overflow_add-done : goal.overflow_add-done
 overflow_add-done c = let r = stands (goal.at.overflow_add-done c).In-Some in let w = c.loop-at.invariant.0 in omega arith

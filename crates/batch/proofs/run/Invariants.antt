@@ -9,7 +9,7 @@ use Rattle.batch.proofs.run.Given as goal
 
 abbrev pub invariant-loop-at : goal.invariant-loop-at
 invariant-loop-at l =
-    Running (lent l.initial.file l.size l.initial.journal l.used l.standing) (Person l.person) l.list l.at l.done (lent l.file l.length l.journal l.u l.n) × (length l.file ≡ length l.initial.file) × (length l.journal ≡ length l.initial.journal)
+    Running (lent l.initial.file l.size l.initial.journal l.used l.standing) (Person l.person) l.list l.at l.done (lent l.file l.left.size l.journal l.left.used l.left.standing) × (length l.file ≡ length l.initial.file) × (length l.journal ≡ length l.initial.journal)
 
 abbrev pub decreases-loop-at : goal.decreases-loop-at
 decreases-loop-at l = length l.list - l.at

@@ -11,15 +11,15 @@ slice_bounds-l-end c =
 
 pub loop-p-preserved-then-is_of_group : goal.loop-p-preserved-then-is_of_group
 loop-p-preserved-then-is_of_group c =
-    rw c.behind-t.ensures
+    rw c.behind.ensures
     (ending-row c.loop-p.invariant (search rules) c.line_end-e.ensures c.in_group-inside.ensures (rw (← c.is_of_group.ensures) c.if-is_of_group.true))
 
 pub loop-p-preserved : goal.loop-p-preserved
 loop-p-preserved c =
     ending-other c.loop-p.invariant (search rules) c.line_end-e.ensures c.in_group-inside.ensures (rw (← c.is_of_group.ensures) c.if-is_of_group.false)
 
-pub behind-t-requires : goal.behind-t-requires
-behind-t-requires c =
+pub behind-requires : goal.behind-requires
+behind-requires c =
     end-le c.args.file.now {p = c.loop-p.p} (search rules) c.line_end-e.ensures
 
 pub overflow_add-p : goal.overflow_add-p

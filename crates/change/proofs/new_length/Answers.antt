@@ -13,6 +13,3 @@ returns-in-Value c = rw c.in-Value.is (cc)
 
 pub returns-in-Line : goal.returns-in-Line
 returns-in-Line c = rw c.in-Line.is
-
-pub returns-in-Refused : goal.returns-in-Refused
-returns-in-Refused c = rw c.in-Refused.is

@@ -19,6 +19,3 @@ returns-in-Entry c = rw c.in-Entry.is c.put_line.ensures
 
 pub returns-in-Line : goal.returns-in-Line
 returns-in-Line c = rw c.in-Line.is (write-none _ _)
-
-pub returns-in-Refused : goal.returns-in-Refused
-returns-in-Refused c = rw c.in-Refused.is (write-none _ _)

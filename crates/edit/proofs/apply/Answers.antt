@@ -1,6 +1,5 @@
 -- `edit::apply` meets its contract: each arm makes the edit of its target. Assumes nothing.
 use native.Mathlib.Omega.{arith}
-use mathlib.Core.Path.{refl}
 use Prim.Native.Nat.{◌≤◌}
 use lib.ListN.{take}
 use Rattle.edit.proofs.Applying.{value-edit, entry-edit, line-edit}
@@ -32,9 +31,6 @@ pub returns-in-Line : goal.returns-in-Line
 returns-in-Line c =
     let a = c.args in
     rw (← line-edit (take a.size a.file.now) a.key.now a.text.now c.in-Line.is (line-inside (goal.at.returns-in-Line c).After-make-arg-in-Line-2-1).0) c.make-in-Line.ensures
-
-pub returns-in-Refused : goal.returns-in-Refused
-returns-in-Refused c = rw c.in-Refused.is (record { answer = refl; file_is = refl; journal_is = refl })
 
 pub overflow_sub-to : goal.overflow_sub-to
 overflow_sub-to c = (value-inside (goal.at.overflow_sub-to c).After-make-arg-in-Value-1).0

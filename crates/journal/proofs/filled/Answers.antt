@@ -5,27 +5,23 @@ use Rattle.journal.specs.Journal.{read_edit}
 use Rattle.journal.proofs.Walking.{further, ends-record}
 use Rattle.journal.proofs.filled.Goals as goal
 
-pub returns-in-Damaged : goal.returns-in-Damaged
-returns-in-Damaged c =
-    let k = c in
-    let r = rw c.in-Damaged.is at k.read_edit.ensures in
-    fill-damaged read_edit k.loop-end.invariant r.0 r.1
+pub returns-in-Err : goal.returns-in-Err
+returns-in-Err c =
+    let r = c.in-Err.ensures in
+    fill-damaged read_edit c.loop-record.invariant r.1 r.2
 
-pub returns-in-Nothing : goal.returns-in-Nothing
-returns-in-Nothing c =
-    let k = c in
-    fill_done read_edit k.loop-end.invariant (rw c.in-Nothing.is at k.read_edit.ensures)
+pub returns-in-Ok-None : goal.returns-in-Ok-None
+returns-in-Ok-None c = fill_done read_edit c.loop-record.invariant (rw c.in-Ok-None.field-0-is at c.in-Ok-None.ensures)
 
-pub loop-end-smaller : goal.loop-end-smaller
-loop-end-smaller c =
-    let r = rw c.in-Edit.is at c.read_edit.ensures in
-    omega (arith, further r.1, r.1.inside)
+pub loop-record-smaller : goal.loop-record-smaller
+loop-record-smaller c =
+    let r = rw c.in-Ok-Some.field-0-is at c.in-Ok-Some.ensures in
+    omega (arith, further r, r.inside)
 
-pub loop-end-preserved : goal.loop-end-preserved
-loop-end-preserved c =
-    let k = c in
-    let r = rw c.in-Edit.is at k.read_edit.ensures in
-    fill-next read_edit k.loop-end.invariant r.1.edit (ends-record r.1)
+pub loop-record-preserved : goal.loop-record-preserved
+loop-record-preserved c =
+    let r = rw c.in-Ok-Some.field-0-is at c.in-Ok-Some.ensures in
+    fill-next read_edit c.loop-record.invariant r.edit (ends-record r)
 
-pub loop-end-init : goal.loop-end-init
-loop-end-init c = fill-begin read_edit _ _
+pub loop-record-init : goal.loop-record-init
+loop-record-init c = fill-begin read_edit _ _

@@ -5,8 +5,8 @@ use Rattle.record.proofs.Each.{Filling}
 use Rattle.journal.specs.Journal.{read_edit}
 use Rattle.journal.proofs.filled.Given as goal
 
-abbrev pub invariant-loop-end : goal.invariant-loop-end
-invariant-loop-end l = Filling read_edit l.used l.from l.at
+abbrev pub invariant-loop-record : goal.invariant-loop-record
+invariant-loop-record l = Filling read_edit l.used l.from l.at
 
-abbrev pub decreases-loop-end : goal.decreases-loop-end
-decreases-loop-end l = length l.used - l.at
+abbrev pub decreases-loop-record : goal.decreases-loop-record
+decreases-loop-record l = length l.used - l.at

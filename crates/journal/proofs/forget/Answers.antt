@@ -1,6 +1,7 @@
 -- `journal::forget` meets its contract: what is asked first, the oldest records, and one move. Assumes nothing.
 use mathlib.Core.Path.{◌∙◌, sym}
 use lib.Seq.{length-take-le}
+use Rattle.fault.proofs.Answers.{handed-on}
 use Rattle.journal.proofs.Opened.{opened-bounds, opened-sound}
 use Rattle.journal.proofs.Ends.{forgets-refused, forget-unopened, forget-fewer, forget_goes, forgets-done}
 use Rattle.journal.proofs.forget.Goals as goal
@@ -20,24 +21,17 @@ slice_bounds-oldest_end-end-2 c =
 pub oldest_end-requires : goal.oldest_end-requires
 oldest_end-requires c = let e = c in opened-sound _ (sym e.opens.ensures ∙ e.if-not-opens.false)
 
-pub returns-in_default : goal.returns-in_default
-returns-in_default c =
-    let f = c in
-    let e = f in
-    forgets-refused _ _ (forget-fewer _ _ (sym e.opens.ensures ∙ e.if-not-opens.false) (rw c.in_default.is at f.oldest_end.ensures))
+pub returns-in_err-gone : goal.returns-in_err-gone
+returns-in_err-gone c =
+    let few = forget-fewer _ _ (sym c.opens.ensures ∙ c.if-not-opens.false) c.oldest_end.result (sym c.ok_or.ensures.value ∙ c.in_err-gone.was) c.oldest_end.ensures in
+    rw (handed-on _ c.from_residual.ensures.1) (forgets-refused _ _ few)
 
 pub drop_front-requires : goal.drop_front-requires
 drop_front-requires c =
-    let a = c in
-    let f = a in
-    let e = f in
-    let g = forget_goes _ _ (sym e.opens.ensures ∙ e.if-not-opens.false) (rw a.in-End.is at f.oldest_end.ensures) in
+    let g = forget_goes _ _ (sym c.opens.ensures ∙ c.if-not-opens.false) (rw (c.ok_or.ensures.ok_part, c.in_ok-gone.was) at c.oldest_end.ensures) in
     (g.stands, g.bounds.standing-fits, g.bounds.used-fits)
 
 pub returns : goal.returns
 returns c =
-    let a = c in
-    let f = a in
-    let e = f in
-    let g = forget_goes _ _ (sym e.opens.ensures ∙ e.if-not-opens.false) (rw a.in-End.is at f.oldest_end.ensures) in
+    let g = forget_goes _ _ (sym c.opens.ensures ∙ c.if-not-opens.false) (rw (c.ok_or.ensures.ok_part, c.in_ok-gone.was) at c.oldest_end.ensures) in
     forgets-done _ _ g c.drop_front.ensures

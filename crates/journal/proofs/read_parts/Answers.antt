@@ -7,13 +7,13 @@ use Rattle.journal.proofs.read_parts.Goals as goal
 pub returns-then-size-lt12 : goal.returns-then-size-lt12
 returns-then-size-lt12 c =
     let s = c in
-    bytes-short _ _ _ s.requires.0 s.requires.1 c.if-size-lt12.true
+    (refl, bytes-short _ _ _ s.requires.0 s.requires.1 c.if-size-lt12.true)
 
 pub returns-then-size-old : goal.returns-then-size-old
 returns-then-size-old c =
     let n = c in
     let s = n in
-    bytes-unlike _ _ _ s.requires.0 s.requires.1 (omega arith) n.number-old.ensures.0 n.number-new.ensures.0 c.if-size-old.true
+    (refl, bytes-unlike _ _ _ s.requires.0 s.requires.1 (omega arith) n.number-old.ensures.0 n.number-new.ensures.0 c.if-size-old.true)
 
 pub returns : goal.returns
 returns c =

@@ -2,10 +2,8 @@
 use Rattle.abi.proofs.Telling.{forgot-done, forgot-refused}
 use Rattle.kveldrim.proofs.edits.kveldrim_forget.Goals as goal
 
-pub returns-in-Done : goal.returns-in-Done
-returns-in-Done c =
-    forgot-done (rw c.in-Done.is at c.forget.ensures)
+pub returns-in-Ok : goal.returns-in-Ok
+returns-in-Ok c = forgot-done c.in-Ok.ensures
 
-pub returns-in-Refused : goal.returns-in-Refused
-returns-in-Refused c =
-    forgot-refused (rw c.in-Refused.is at c.forget.ensures) c.refuse.ensures.0 c.refuse.ensures.1
+pub returns-in-Err : goal.returns-in-Err
+returns-in-Err c = forgot-refused c.in-Err.ensures c.refuse.ensures.0 c.refuse.ensures.1
