@@ -14,7 +14,7 @@ use change::Operation;
 use edit::Edited;
 use fault::Fault;
 use record::{Front, HEAD};
-use requests::Fields;
+use requests::Request;
 use wellformed::Checked;
 
 // What a batch did: how many requests were done, the numbers that they left, and the refusal at which it stopped, if it did.
@@ -38,11 +38,9 @@ fn make(
     requires { Ready file.old size standing }
     ensures { MadeOf kind body.now (Person person) file.old size journal.old standing result file.new journal.new }
 {
-    let end = body.len();
     match requests::read(kind, body) {
-        Fields::Damaged => Err(Fault::Damaged),
-        Fields::Two { group } => {
-            let from = group + 4;
+        None => Err(Fault::Damaged),
+        Some(Request::Remove { group, key }) => {
             edit::carry_out(
                 file,
                 size,
@@ -50,14 +48,12 @@ fn make(
                 standing,
                 person,
                 Operation::Remove,
-                &body[4..group],
-                &body[from..end],
+                group,
+                key,
                 b"",
             )
         }
-        Fields::Three { group, key } => {
-            let from = group + 4;
-            let text = key + 4;
+        Some(Request::Set { group, key, text }) => {
             edit::carry_out(
                 file,
                 size,
@@ -65,9 +61,9 @@ fn make(
                 standing,
                 person,
                 Operation::Set,
-                &body[4..group],
-                &body[from..key],
-                &body[text..end],
+                group,
+                key,
+                text,
             )
         }
     }

@@ -9,12 +9,11 @@ use lib.Seq.{drop-drop}
 use borrow.Author.Tests.{le-leb, lt-leb, eq-eqb, ne_eqb}
 use Rattle.base.specs.Lists.{part}
 use Rattle.requests.specs.Requests.{Asked, field_end, field, ending, asked_by, read_request}
-use Rattle.requests.specs.declared.Field.TheVariants.{End, Short}
 use Rattle.requests.specs.Places.{Ends}
 
 module _ {A : Type 0} (s : List ℕ) (at : ℕ) (next : List ℕ → List ℕ → Option A) where
   -- a whole field at a place
-  field-whole : (e : ℕ) → Ends s at (End e) → field (drop at s) next ≡ next (part (at + 4) e s) (drop e s)
+  field-whole : (e : ℕ) → Ends s at (Some e) → field (drop at s) next ≡ next (part (at + 4) e s) (drop e s)
   unfolding field
   field-whole e h =
       let n : ℕ = field_end (drop at s) in
@@ -22,7 +21,7 @@ module _ {A : Type 0} (s : List ℕ) (at : ℕ) (next : List ℕ → List ℕ �
       rw (le-leb n (length (drop at s)) (simp length-drop (omega arith)), h.0, k, ← drop-drop 4 at s, ← drop-drop n at s)
 
   -- one that is not whole
-  field-short : Ends s at Short → at ≤ length s → field (drop at s) next ≡ None
+  field-short : Ends s at None → at ≤ length s → field (drop at s) next ≡ None
   unfolding field
   field-short h k = rw (lt-leb (field_end (drop at s)) (length (drop at s)) (simp length-drop (omega arith)))
 
@@ -35,19 +34,19 @@ module _ {A : Type 0} (s : List ℕ) (a : A) (e : ℕ) where
   ending-not h = rw (ne_eqb (length (drop e s)) 0 (λ z. absurd (omega (arith, length-drop e s))))
 
 module _ (kind : ℕ) (s : List ℕ) where
-  pub group-short : Ends s 0 Short → read_request (record { kind = kind; body = s }) ≡ None
+  pub group-short : Ends s 0 None → read_request (record { kind = kind; body = s }) ≡ None
   unfolding read_request
   group-short h = field-short s 0 (λ group t. field t (λ key u. asked_by kind group key u)) h (omega arith)
 
-  module _ {g : ℕ} (h : Ends s 0 (End g)) where
+  module _ {g : ℕ} (h : Ends s 0 (Some g)) where
     behind-group : read_request (record { kind = kind; body = s }) ≡ field (drop g s) (λ key u. asked_by kind (part 4 g s) key u)
     unfolding read_request
     behind-group = field-whole s 0 (λ group t. field t (λ key u. asked_by kind group key u)) g h
 
-    pub key-short : Ends s g Short → read_request (record { kind = kind; body = s }) ≡ None
+    pub key-short : Ends s g None → read_request (record { kind = kind; body = s }) ≡ None
     key-short i = behind-group ∙ field-short s g (λ key u. asked_by kind (part 4 g s) key u) i h.1
 
-    module _ {k : ℕ} (i : Ends s g (End k)) where
+    module _ {k : ℕ} (i : Ends s g (Some k)) where
       behind-key : read_request (record { kind = kind; body = s }) ≡ asked_by kind (part 4 g s) (part (g + 4) k s) (drop k s)
       behind-key = behind-group ∙ field-whole s g (λ key u. asked_by kind (part 4 g s) key u) k i
 
@@ -55,8 +54,8 @@ module _ (kind : ℕ) (s : List ℕ) where
       pub two-more : kind ≡ 6 → k < length s → read_request (record { kind = kind; body = s }) ≡ None
       two-more e l = behind-key ∙ rw (eq-eqb kind 6 e) (ending-not s _ k l)
 
-      pub two : kind ≡ 6 → length s ≤ k → read_request (record { kind = kind; body = s }) ≡ Some (record { group = part 4 g s; key = part (g + 4) (length s) s; text = None })
-      two e l = let z : k ≡ length s = omega (arith, i.1) in behind-key ∙ rw (eq-eqb kind 6 e) (ending_there s _ k l ∙ rw z)
+      pub two : kind ≡ 6 → length s ≤ k → read_request (record { kind = kind; body = s }) ≡ Some (record { group = part 4 g s; key = part (g + 4) k s; text = None })
+      two e l = behind-key ∙ rw (eq-eqb kind 6 e) (ending_there s _ k l)
 
       -- of another kind
       pub no_kind : (kind ≡ 6 → ⊥) → (kind ≡ 5 → ⊥) → read_request (record { kind = kind; body = s }) ≡ None
@@ -70,10 +69,10 @@ module _ (kind : ℕ) (s : List ℕ) where
         three-is : read_request (record { kind = kind; body = s }) ≡ with-text
         three-is = behind-key ∙ rw (ne_eqb kind 6 (λ z. absurd (omega arith)), eq-eqb kind 5 f)
 
-        pub text-short : Ends s k Short → read_request (record { kind = kind; body = s }) ≡ None
+        pub text-short : Ends s k None → read_request (record { kind = kind; body = s }) ≡ None
         text-short j = three-is ∙ field-short s k (λ text t. ending t (record { group = part 4 g s; key = part (g + 4) k s; text = Some text })) j i.1
 
-        module _ {e : ℕ} (j : Ends s k (End e)) where
+        module _ {e : ℕ} (j : Ends s k (Some e)) where
           behind-text : with-text ≡ ending (drop e s) (record { group = part 4 g s; key = part (g + 4) k s; text = Some (part (k + 4) e s) })
           behind-text = field-whole s k (λ text t. ending t (record { group = part 4 g s; key = part (g + 4) k s; text = Some text })) e j
 
@@ -81,5 +80,5 @@ module _ (kind : ℕ) (s : List ℕ) where
           three-more l = three-is ∙ behind-text ∙ ending-not s _ e l
 
           pub three : length s ≤ e
-              → read_request (record { kind = kind; body = s }) ≡ Some (record { group = part 4 g s; key = part (g + 4) k s; text = Some (part (k + 4) (length s) s) })
-          three l = let z : e ≡ length s = omega (arith, j.1) in three-is ∙ behind-text ∙ ending_there s _ e l ∙ rw z
+              → read_request (record { kind = kind; body = s }) ≡ Some (record { group = part 4 g s; key = part (g + 4) k s; text = Some (part (k + 4) e s) })
+          three l = three-is ∙ behind-text ∙ ending_there s _ e l

@@ -1,23 +1,15 @@
 -- What the functions of this crate answer, by the definition of requests. Assumes nothing.
-use Rattle.std.specs.Prelude.{◌≡◌, ℕ, ◌+◌, ◌≤◌, ◌<◌, List, length, drop, Some, None}
-use Rattle.base.specs.Lists.{part}
-use Rattle.requests.specs.Requests.{field_end, read_request}
-use Rattle.requests.specs.declared.Field.{Field}
-use Rattle.requests.specs.declared.Field.TheVariants as field
-use Rattle.requests.specs.declared.Fields.{Fields}
-use Rattle.requests.specs.declared.Fields.TheVariants as fields
+use Rattle.std.specs.Prelude.{◌≡◌, ℕ, ◌+◌, ◌≤◌, ◌<◌, List, length, drop, Option, Some, None}
+use Rattle.requests.specs.Requests.{Asked, field_end}
+use Rattle.requests.specs.declared.Request.{Request}
+use Rattle.requests.specs.declared.Request.TheVariants as request
 
--- where the field at a place ends, or that it is not whole
-abbrev pub Ends : List ℕ → ℕ → Field → Type 0
-Ends s at (field.End e) = (e ≡ at + field_end (drop at s)) × (e ≤ length s)
-Ends s at field.Short = length s < at + field_end (drop at s)
+-- where the field at a place ends; none: it is not whole
+abbrev pub Ends : List ℕ → ℕ → Option ℕ → Type 0
+Ends s at (Some e) = (e ≡ at + field_end (drop at s)) × (e ≤ length s)
+Ends s at None = length s < at + field_end (drop at s)
 
--- the fields of a record with this body, each but the last by its end, or that it is damaged
-abbrev pub Reads : ℕ → List ℕ → Fields → Type 0
-Reads kind s fields.Damaged = read_request (record { kind = kind; body = s }) ≡ None
-Reads kind s (fields.Two group) =
-    (read_request (record { kind = kind; body = s }) ≡ Some (record { group = part 4 group s; key = part (group + 4) (length s) s; text = None }))
-    × (4 ≤ group) × (group + 4 ≤ length s)
-Reads kind s (fields.Three group key) =
-    (read_request (record { kind = kind; body = s }) ≡ Some (record { group = part 4 group s; key = part (group + 4) key s; text = Some (part (key + 4) (length s) s) }))
-    × (4 ≤ group) × (group + 4 ≤ key) × (key + 4 ≤ length s)
+-- what is asked for by the bytes of a request's parts
+abbrev pub asked_of : Request → Asked
+asked_of (request.Set group key text) = record { group = group.now; key = key.now; text = Some text.now }
+asked_of (request.Remove group key) = record { group = group.now; key = key.now; text = None }

@@ -1,83 +1,73 @@
 // Requests in lent records: their fields, and whether a list is filled by them.
 #![tactic(auto)]
 
-ghost use Rattle.std.specs.Prelude.{◌≡◌, ◌≤◌, length};
+ghost use Rattle.std.specs.Prelude.{◌≡◌, ◌≤◌, length, option_map};
 ghost use Rattle.base.specs.Choice.{there};
 ghost use Rattle.requests.specs.Requests.{read_request, read_requests};
-ghost use Rattle.requests.specs.Places.{Ends, Reads};
+ghost use Rattle.requests.specs.Places.{Ends, asked_of};
 
 use record::{Front, HEAD};
 
-// Where a field ends, or that it is not whole.
+// What a record asks for: parts of its body.
 #[derive(Clone, Copy)]
-enum Field {
-    End(usize),
-    Short,
+pub enum Request<'a> {
+    Set {
+        group: &'a [u8],
+        key: &'a [u8],
+        text: &'a [u8],
+    },
+    Remove {
+        group: &'a [u8],
+        key: &'a [u8],
+    },
 }
 
-// The fields in a record's body, each behind four bytes of its length. The last one ends with the body.
-#[derive(Clone, Copy)]
-pub enum Fields {
-    // Group and key; the end of the group.
-    Two { group: usize },
-    // Group, key and text; the ends of group and key.
-    Three { group: usize, key: usize },
-    Damaged,
-}
-
-// The field at a place.
-fn field_end(body: &[u8], at: usize) -> Field
+// Where the field at a place ends; none: it is not whole.
+fn field_end(body: &[u8], at: usize) -> Option<usize>
     requires { at ≤ length body.now }
     ensures { Ends body.now at result }
 {
     let left = body.len() - at;
     if left < 4 {
-        return Field::Short;
+        return None;
     }
     let size = record::number::<4>(body, at);
     if left - 4 < size {
-        return Field::Short;
+        return None;
     }
-    Field::End(at + (4 + size))
+    Some(at + (4 + size))
 }
 
-// The fields of a record of kind 5, with a text, or of kind 6, without.
-pub fn read(kind: u16, body: &[u8]) -> Fields
-    ensures { Reads kind body.now result }
+// What a record of kind 5, with a text, or of kind 6, without, asks for: its fields, each behind four bytes of its length, fill the body.
+pub fn read<'a>(kind: u16, body: &'a [u8]) -> Option<Request<'a>>
+    ensures { option_map asked_of result ≡ read_request (record { kind = kind; body = body.now }) }
 {
-    let Field::End(group) = field_end(body, 0) else {
-        return Fields::Damaged;
-    };
-    let Field::End(key) = field_end(body, group) else {
-        return Fields::Damaged;
-    };
+    let group_end = field_end(body, 0)?;
+    let key_end = field_end(body, group_end)?;
+    let group = &body[4..group_end];
+    let key = &body[group_end + 4..key_end];
     if kind == 6 {
-        if key < body.len() {
-            return Fields::Damaged;
+        if key_end < body.len() {
+            return None;
         }
-        return Fields::Two { group };
+        return Some(Request::Remove { group, key });
     }
     if kind != 5 {
-        return Fields::Damaged;
+        return None;
     }
-    let Field::End(text) = field_end(body, key) else {
-        return Fields::Damaged;
-    };
-    if text < body.len() {
-        return Fields::Damaged;
+    let text_end = field_end(body, key_end)?;
+    if text_end < body.len() {
+        return None;
     }
-    Fields::Three { group, key }
+    let text = &body[key_end + 4..text_end];
+    Some(Request::Set { group, key, text })
 }
 
 // Whether a record is a request.
 fn is_request(kind: u16, body: &[u8]) -> bool
     ensures { result ≡ there (read_request (record { kind = kind; body = body.now })) }
 {
-    match read(kind, body) {
-        Fields::Damaged => false,
-        Fields::Two { group: _ } => true,
-        Fields::Three { group: _, key: _ } => true,
-    }
+    read(kind, body).is_some()
 }
 
 // Whether requests fill a list, which is not too long.
