@@ -19,7 +19,7 @@ use Rattle.line.specs.declared.Line.TheVariants.{Blank, Comment, Header, Entry, 
 use Rattle.rows.specs.Rows.{Row, line_of, group_after, read_rows}
 use Rattle.rows.specs.Title.{Group, Key, title, title_of, same_title, find_row, has}
 use Rattle.rows.specs.Find.{found_of}
-use Rattle.rows.specs.declared.Found.TheVariants as found
+use Rattle.rows.specs.declared.Row as told
 use Rattle.rows.proofs.Lines.{header-good, no-group}
 use Rattle.rows.proofs.Rows.{group_end}
 use Rattle.rows.proofs.Told.{Told, told-row, found-row, reading-is, line-inside, line-stands}
@@ -76,7 +76,7 @@ pub record Titled (file g : List ℕ) (p e : ℕ) : Type 0 where
   pub is : part (p + 1) (e - 1) file ≡ g
   pub there-is : has (read_rows file) (Group g) ≡ true
 
-row-titled : (file g : List ℕ) (r : Row) (i : find_row (read_rows file) (Group g) ≡ Some r) {n p e v : ℕ} → Told r n p e v → Titled file g p e
+row-titled : (file g : List ℕ) (r : Row) (i : find_row (read_rows file) (Group g) ≡ Some r) {w : told.Row} → Told r w → Titled file g w.start w.end
 row-titled file g r i b =
     record {
       brackets = omega (arith, (headed file g i).1, b.start_is, b.end_is);
@@ -85,9 +85,9 @@ row-titled file g r i b =
       there-is = rw i;
     }
 
-pub titled : (file g : List ℕ) {n p e v : ℕ} → found_of (find_row (read_rows file) (Group g)) ≡ found.Row n p e v → Titled file g p e
-titled file g {n} {p} {e} {v} i =
-    let a = told-row (find_row (read_rows file) (Group g)) n p e v i in
+pub titled : (file g : List ℕ) {w : told.Row} → found_of (find_row (read_rows file) (Group g)) ≡ Some w → Titled file g w.start w.end
+titled file g {w} i =
+    let a = told-row (find_row (read_rows file) (Group g)) w i in
     row-titled file g a.0 a.1 a.2
 
 -- a group's name is no longer than the file

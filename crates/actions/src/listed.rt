@@ -6,23 +6,15 @@ ghost use Rattle.rows.specs.Find.{none_bad};
 ghost use Rattle.actions.specs.Actions.{actions_value, is_action};
 ghost use Rattle.actions.specs.Step.{elements, group_if, is_listed_at};
 
-use rows::Found;
-
 // The raw value of the list Actions; empty without one.
 pub fn value(file: &[u8]) -> &[u8]
     requires { none_bad file.now ≡ true }
     ensures { result.now ≡ actions_value (read_rows file.now) }
 {
-    let Found::Row {
-        line: _,
-        start: _,
-        end,
-        value,
-    } = rows::find_key(file, b"Desktop Entry", b"Actions")
-    else {
+    let Some(row) = rows::find_key(file, b"Desktop Entry", b"Actions") else {
         return &file[..0];
     };
-    &file[value..end]
+    &file[row.value..row.end]
 }
 
 // Whether bytes are an element of a raw list.
@@ -32,7 +24,7 @@ fn is_element(raw: &[u8], id: &[u8]) -> bool
     let mut i: usize = 0;
     while i < raw.len() {
         let e = characters::classes::bare_end(raw, i, b';');
-        if rows::same(id, &raw[i..e]) {
+        if id == &raw[i..e] {
             return true;
         }
         i = e + 1;
@@ -45,26 +37,15 @@ fn group_of<'a, 'b>(file: &'a [u8], id: &'b [u8]) -> &'a [u8]
     requires { none_bad file.now ≡ true }
     ensures { result.now ≡ group_if (is_action (read_rows file.now) id.now) id.now }
 {
-    if line::form::is_plain(id) {
-        let Found::Row {
-            line: _,
-            start,
-            end,
-            value: _,
-        } = rows::find_group(file, b"Desktop Action ", id)
-        else {
-            return &file[..0];
-        };
-        let group = &file[start + 1..end - 1];
-        return match rows::find_key(file, group, b"Name") {
-            Found::Row {
-                line: _,
-                start: _,
-                end: _,
-                value: _,
-            } => group,
-            Found::Nothing => &file[..0],
-        };
+    if !line::form::is_plain(id) {
+        return &file[..0];
+    }
+    let Some(row) = rows::find_group(file, b"Desktop Action ", id) else {
+        return &file[..0];
+    };
+    let group = &file[row.start + 1..row.end - 1];
+    if rows::find_key(file, group, b"Name").is_some() {
+        return group;
     }
     &file[..0]
 }

@@ -6,6 +6,7 @@ use native.Mathlib.Omega.{arith}
 use mathlib.Core.Bool.{Bool, true, false, ◌&&◌, ◌||◌, false≢true}
 use mathlib.Core.List.{List, [], ◌∷◌}
 use lib.Dec.{eqb, eqb-zero-suc, eqb-suc-zero, eqb-suc-suc}
+use lib.Pointwise.{pointwise}
 use borrow.Author.Tests.{eq-eqb, eqb-true}
 use Rattle.base.specs.Choice.{there}
 use Rattle.base.specs.Lists.{same, all}
@@ -81,3 +82,22 @@ same-sym [] [] = refl
 same-sym [] (b ∷ y) = refl
 same-sym (a ∷ x) [] = refl
 same-sym (a ∷ x) (b ∷ y) = ap₂ ◌&&◌ (eqb-sym a b) (same-sym x y)
+
+-- what `==` and `starts_with` tell of bytes
+pub pointwise_same : (x y : List ℕ) → pointwise eqb x y ≡ same x y
+unfolding same
+pointwise_same [] [] = refl
+pointwise_same [] (b ∷ y) = refl
+pointwise_same (a ∷ x) [] = refl
+pointwise_same (a ∷ x) (b ∷ y) = ap (λ (t : Bool). eqb a b && t) (pointwise_same x y)
+
+pub same-by : {t : Bool} (x : List ℕ) {y z : List ℕ} → t ≡ pointwise eqb x y → y ≡ z → t ≡ same x z
+same-by x {y} e i = e ∙ pointwise_same x y ∙ ap (same x) i
+
+-- ---- what `a || b` answers, by the branch that was taken
+
+pub or-first : {v r : Bool} (a b : Bool) → v ≡ r → r ≡ true → r ≡ a → v ≡ (a || b)
+or-first a b i t e = i ∙ t ∙ ap (λ (x : Bool). x || b) (sym t ∙ e)
+
+pub or-second : {v r q : Bool} (a b : Bool) → v ≡ q → r ≡ false → r ≡ a → q ≡ b → v ≡ (a || b)
+or-second a b i t e j = i ∙ j ∙ ap (λ (x : Bool). x || b) (sym t ∙ e)

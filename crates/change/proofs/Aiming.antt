@@ -1,5 +1,5 @@
 -- What a set or a remove changes, by what was found in the file. Assumes nothing.
-use Rattle.std.specs.Prelude.{Option, Some, None, Ok, Err, ok_or}
+use Rattle.std.specs.Prelude.{Option, Some, None, is_some, Ok, Err, ok_or}
 use mathlib.Core.Path.{◌≡◌, refl, sym, ap, ◌∙◌}
 use Prim.Native.Nat.{ℕ, ◌+◌, ◌-◌, ◌≤◌, ◌<◌}
 use native.Mathlib.Omega.{arith}
@@ -22,11 +22,10 @@ use Rattle.line.specs.Form.{group_form, key_form}
 use Rattle.rows.specs.Rows.{Row, rows, line_of, ended, read_rows, raw_value}
 use Rattle.rows.specs.Title.{Title, Nameless, Group, Key, title, same_title, find_row, has}
 use Rattle.rows.specs.Find.{found_of}
-use Rattle.rows.specs.declared.Found.TheVariants as found
+use Rattle.rows.specs.declared.Row as told
 use Rattle.rows.proofs.Rows.{Found, RowBefore, full, open-end, rows_are, rows-after, line_clean, line-full, group_end}
-use Rattle.rows.proofs.Told.{Told, told-row, told-nothing, found-row, told_bounds, value-stands}
+use Rattle.rows.proofs.Told.{Told, told-row, told-nothing, found-there, found-row, told_bounds, value-stands}
 use Rattle.wellformed.specs.Check.{plain_of}
-use Rattle.wellformed.proofs.Plain.{told-there, told-missing}
 use Rattle.entry.specs.Lookup.{value_ends}
 use Rattle.splice.specs.Edit.{Edit}
 use Rattle.splice.proofs.Splits.{Splits, splits-old, splits-length}
@@ -60,13 +59,9 @@ module _ (key : List ℕ) {n : ℕ} (q : n ≡ 0 + span key_byte (drop 0 key)) w
   plain-itself e = plain-is ∙ eq-eqb n (length key) e
 
   module _ (file group : List ℕ) (e : n ≡ length key → ⊥) where
-    pub plain-there : {line start end value : ℕ} → found.Row line start end value ≡ found_of (find_row (read_rows file) (Key group (take n key))) → true ≡ plain file group key
+    pub plain-found : {f : Option told.Row} {b : Bool} → b ≡ is_some f → f ≡ found_of (find_row (read_rows file) (Key group (take n key))) → b ≡ plain file group key
     unfolding plain_of
-    plain-there f = rw (plain-is, ne_eqb n (length key) e, span-is) (sym (told-there (find_row (read_rows file) (Key group (take n key))) f))
-
-    pub plain-missing : found.Nothing ≡ found_of (find_row (read_rows file) (Key group (take n key))) → false ≡ plain file group key
-    unfolding plain_of
-    plain-missing f = rw (plain-is, ne_eqb n (length key) e, span-is) (sym (told-missing (find_row (read_rows file) (Key group (take n key))) f))
+    plain-found i f = rw (plain-is, ne_eqb n (length key) e, span-is) (sym (found-there (find_row (read_rows file) (Key group (take n key))) i f))
 
 -- ---- what was found
 
@@ -127,8 +122,8 @@ module _ (file group key : List ℕ) where
   abbrev SetBy : Answer Target → Type 0
   SetBy a = Aims file key (set_edit (read_rows file) group key) a
 
-  value-by : (r s : Row) {n start end value : ℕ} → ends ≡ Some s → true ≡ plain file group key → entry ≡ Some r → Told r n start end value → (value ≤ end) × (end ≤ length file)
-      → SetBy (Ok (target.Value value end))
+  value-by : (r s : Row) {w : told.Row} → ends ≡ Some s → true ≡ plain file group key → entry ≡ Some r → Told r w → (w.value ≤ w.end) × (w.end ≤ length file)
+      → SetBy (Ok (target.Value w.value w.end))
   unfolding set_edit value_ends raw_value
   value-by r s e p y t b =
       record { is = λ text. rw (e, ← p, y, t.value-is, t.end_is, value-stands file (found-row file (Key group key) r y)); inside = b }
@@ -149,7 +144,7 @@ module _ (file group key : List ℕ) where
   set-no-group (Some t) h e = no (cc)
 
   -- the entry is there, and so is its group
-  module _ {n start end value : ℕ} (y : found.Row n start end value ≡ found_of entry) where
+  module _ {found : told.Row} (y : Some found ≡ found_of entry) where
     -- the group's last row
     group-there : (s : Row) × (ends ≡ Some s)
     unfolding find_row
@@ -157,7 +152,7 @@ module _ (file group key : List ℕ) where
         by-test (any (λ r. of_group group (title r)) (read_rows file))
         (λ t. some-there ends (there-last (λ r. of_group group (title r)) (read_rows file) ∙ t))
         (λ t.
-        let a = told-row entry n start end value (sym y) in
+        let a = told-row entry found (sym y) in
         let z : any (λ r. same_title (Key group key) (title r)) (read_rows file) ≡ false = any_none (λ r. of_group group (title r)) (λ r. of_group group (title r)) (λ r. of_group group (title r)) (λ r. same_title (Key group key) (title r)) (λ r u v w. other-group group key (title r) u) (read_rows file) t t t in
         let w : there entry ≡ false = there-first (λ r. same_title (Key group key) (title r)) (read_rows file) ∙ z in
         no (cc (ap there a.1)))
@@ -166,11 +161,11 @@ module _ (file group key : List ℕ) where
     unfolding set_edit
     value-no-plain p = record { is = λ text. rw (group-there.1, ← p); inside = tt }
 
-    pub set_value : true ≡ plain file group key → SetBy (Ok (target.Value value end))
+    pub set_value : true ≡ plain file group key → SetBy (Ok (target.Value found.value found.end))
     set_value p =
-        let a = told-row entry n start end value (sym y) in
+        let a = told-row entry found (sym y) in
         let o = group-there in
-        let b = told_bounds file (Key group key) n start end value (sym y) in
+        let b = told_bounds file (Key group key) found (sym y) in
         value-by a.0 o.0 o.1 p a.1 a.2 (b.1, b.2)
 
   -- the entry is absent
@@ -191,14 +186,14 @@ module _ (file group key : List ℕ) where
   abbrev RemoveBy : Answer Target → Type 0
   RemoveBy a = Aims file key (λ _. remove_edit (read_rows file) group key) a
 
-  pub remove-missing : found.Nothing ≡ found_of (entry file group key) → RemoveBy (Err Missing)
+  pub remove-missing : None ≡ found_of (entry file group key) → RemoveBy (Err Missing)
   unfolding remove_edit
   remove-missing y = record { is = λ text. rw (told-nothing (entry file group key) (sym y)); inside = tt }
 
-  module _ {n start end value : ℕ} (y : found.Row n start end value ≡ found_of (entry file group key)) where
+  module _ {found : told.Row} (y : Some found ≡ found_of (entry file group key)) where
     pub remove-blocked : true ≡ postfixes → RemoveBy (Err PostfixesRemain)
     unfolding remove_edit
-    remove-blocked p = record { is = λ text. rw ((told-row (entry file group key) n start end value (sym y)).1, ← p); inside = tt }
+    remove-blocked p = record { is = λ text. rw ((told-row (entry file group key) found (sym y)).1, ← p); inside = tt }
 
     -- none is in the way: the row goes
     module _ (p : false ≡ postfixes) where
@@ -207,52 +202,52 @@ module _ (file group key : List ℕ) where
       unfolding remove_edit
       gone-by r f place old z h i j = record { is = λ text. rw (f, ← p, z, old-part h i j, i); inside = old-inside h i j }
 
-      module _ (r : Row) (f : entry file group key ≡ Some r) (t : Told r n start end value) where
+      module _ (r : Row) (f : entry file group key ≡ Some r) (t : Told r found) where
         w : Found (λ s. same_title (Key group key) (title s)) 0 [] (rows file) r
         w = found-row file (Key group key) r f
 
-        starts : start ≡ length (joined w.xs)
+        starts : found.start ≡ length (joined w.xs)
         starts = t.start_is ∙ ap (λ (s : Row). s.start) w.row ∙ omega arith
 
-        ends_at : end ≡ length (joined w.xs) + length (line_of w.bytes)
+        ends_at : found.end ≡ length (joined w.xs) + length (line_of w.bytes)
         ends_at = t.end_is ∙ ap (λ (s : Row). s.start + length (line_of s.bytes)) w.row ∙ omega arith
 
         ends_by : RowEnd file w.bytes (length (joined w.xs))
         ends_by = row-end file w.xs w.bytes w.ys w.is
 
         -- it goes with its LF
-        row-gone : end < length file → RemoveBy (Ok (target.Line start (end + 1)))
+        row-gone : found.end < length file → RemoveBy (Ok (target.Line found.start (found.end + 1)))
         row-gone h = by ends_by
           where
-            by : RowEnd file w.bytes (length (joined w.xs)) → RemoveBy (Ok (target.Line start (end + 1)))
+            by : RowEnd file w.bytes (length (joined w.xs)) → RemoveBy (Ok (target.Line found.start (found.end + 1)))
             by (by-lf e l b) =
                 gone-by r f (length (joined w.xs)) w.bytes (ap removing w.row ∙ removing-is file w.xs w.bytes w.ys w.is w.number (group_end [] w.xs) true e)
                 (splits-ended file w.xs w.bytes w.ys w.is) starts (omega (arith, ends_at))
             by (by_end e l b) = absurd (omega (arith, ends_at))
 
         -- it is the last and has none: it goes with the LF before it
-        module _ (h : length file ≤ end) (form : (group_form group && key_form key) ≡ true) where
+        module _ (h : length file ≤ found.end) (form : (group_form group && key_form key) ≡ true) where
           others : LastRow w.xs
           others = row_before file group key r form w
 
-          last-starts : 1 ≤ start
+          last-starts : 1 ≤ found.start
           last-starts = omega (arith, starts, ap length (last-joined w.xs others), length-append (joined others.others ++ others.line) (10 ∷ []))
 
-          last-gone : RemoveBy (Ok (target.Line (start - 1) end))
+          last-gone : RemoveBy (Ok (target.Line (found.start - 1) found.end))
           last-gone = by ends_by
             where
-              by : RowEnd file w.bytes (length (joined w.xs)) → RemoveBy (Ok (target.Line (start - 1) end))
+              by : RowEnd file w.bytes (length (joined w.xs)) → RemoveBy (Ok (target.Line (found.start - 1) found.end))
               by (by-lf e l b) = absurd (omega (arith, ends_at))
               by (by_end e l b) =
                   gone-by r f (length (joined w.xs) - 1) (10 ∷ w.bytes) (ap removing w.row ∙ removing-is file w.xs w.bytes w.ys w.is w.number (group_end [] w.xs) false e)
                   (splits_last file w.xs w.bytes w.ys w.is others) (ap (λ (m : ℕ). m - 1) starts) (omega (arith, starts, ends_at, last-starts))
 
-      pub remove-row : end < length file → RemoveBy (Ok (target.Line start (end + 1)))
-      remove-row = let a = told-row (entry file group key) n start end value (sym y) in row-gone a.0 a.1 a.2
+      pub remove-row : found.end < length file → RemoveBy (Ok (target.Line found.start (found.end + 1)))
+      remove-row = let a = told-row (entry file group key) found (sym y) in row-gone a.0 a.1 a.2
 
-      module _ (h : length file ≤ end) (form : (group_form group && key_form key) ≡ true) where
-        pub last-start : 1 ≤ start
-        last-start = let a = told-row (entry file group key) n start end value (sym y) in last-starts a.0 a.1 a.2 h form
+      module _ (h : length file ≤ found.end) (form : (group_form group && key_form key) ≡ true) where
+        pub last-start : 1 ≤ found.start
+        last-start = let a = told-row (entry file group key) found (sym y) in last-starts a.0 a.1 a.2 h form
 
-        pub remove-last : RemoveBy (Ok (target.Line (start - 1) end))
-        remove-last = let a = told-row (entry file group key) n start end value (sym y) in last-gone a.0 a.1 a.2 h form
+        pub remove-last : RemoveBy (Ok (target.Line (found.start - 1) found.end))
+        remove-last = let a = told-row (entry file group key) found (sym y) in last-gone a.0 a.1 a.2 h form

@@ -19,7 +19,6 @@ ghost use Rattle.change.specs.Target as target;
 use characters::{Class, Content};
 use fault::Fault;
 use line::Line;
-use rows::Found;
 
 // What is asked for: a key is set to a text, or removed.
 #[derive(Clone, Copy)]
@@ -54,7 +53,7 @@ fn in_group(l: &[u8], group: &[u8], inside: bool) -> bool
         return inside;
     }
     match line::read_line(l) {
-        Line::Header { end } => rows::same(group, &l[1..end]),
+        Line::Header { end } => group == &l[1..end],
         Line::Blank | Line::Comment | Line::Entry { .. } | Line::Bad(_) => inside,
     }
 }
@@ -88,7 +87,7 @@ fn group_end(file: &[u8], group: &[u8]) -> Option<Slot>
     ensures { result ≡ target.slot_of (last (λ r. spec.of_group group.now (title.title r)) (read_rows file.now)) }
 {
     let mut p: usize = 0;
-    let mut inside = rows::same(group, b"");
+    let mut inside = group.is_empty();
     let mut t = None;
     while p < file.len() {
         let e = rows::line_end(file, p);
@@ -110,7 +109,7 @@ fn is_postfixed(l: &[u8], key: &[u8], inside: bool) -> bool
 {
     if inside {
         return match line::read_line(l) {
-            Line::Entry { key: k, name, .. } => rows::same(key, &l[..k]) & (k != name),
+            Line::Entry { key: k, name, .. } => key == &l[..k] && k != name,
             Line::Blank | Line::Comment | Line::Header { .. } | Line::Bad(_) => false,
         };
     }
@@ -122,7 +121,7 @@ fn has_postfixed(file: &[u8], group: &[u8], key: &[u8]) -> bool
     ensures { result ≡ any (λ s. spec.postfix_of group.now key.now (title.title s)) (read_rows file.now) }
 {
     let mut p: usize = 0;
-    let mut inside = rows::same(group, b"");
+    let mut inside = group.is_empty();
     while p < file.len() {
         let e = rows::line_end(file, p);
         let l = &file[p..e];
@@ -144,15 +143,7 @@ fn has_plain(file: &[u8], group: &[u8], key: &[u8]) -> bool
     if n == key.len() {
         return true;
     }
-    match rows::find_key(file, group, &key[..n]) {
-        Found::Row {
-            line: _,
-            start: _,
-            end: _,
-            value: _,
-        } => true,
-        Found::Nothing => false,
-    }
+    rows::find_key(file, group, &key[..n]).is_some()
 }
 
 // Where a set puts an entry that a file without bad lines does not have: 8, 6.
@@ -172,19 +163,13 @@ fn find_set(file: &[u8], group: &[u8], key: &[u8]) -> Result<Target, Fault>
     requires { none_bad file.now ≡ true }
     ensures { target.Aims file.now key.now (spec.set_edit (read_rows file.now) group.now key.now) result }
 {
-    let Found::Row {
-        line: _,
-        start: _,
-        end,
-        value,
-    } = rows::find_key(file, group, key)
-    else {
+    let Some(row) = rows::find_key(file, group, key) else {
         return find_place(file, group, key);
     };
     if has_plain(file, group, key) {
         return Ok(Target::Value {
-            from: value,
-            to: end,
+            from: row.value,
+            to: row.end,
         });
     }
     Err(Fault::NoPlainKey { line: 0 })
@@ -195,27 +180,21 @@ fn find_remove(file: &[u8], group: &[u8], key: &[u8]) -> Result<Target, Fault>
     requires { (none_bad file.now ≡ true) × ((group_form group.now && key_form key.now) ≡ true) }
     ensures { target.Aims file.now key.now (λ _. spec.remove_edit (read_rows file.now) group.now key.now) result }
 {
-    let Found::Row {
-        line: _,
-        start,
-        end,
-        value: _,
-    } = rows::find_key(file, group, key)
-    else {
+    let Some(row) = rows::find_key(file, group, key) else {
         return Err(Fault::Missing);
     };
     if has_postfixed(file, group, key) {
         return Err(Fault::PostfixesRemain);
     }
-    if end < file.len() {
+    if row.end < file.len() {
         return Ok(Target::Line {
-            from: start,
-            to: end + 1,
+            from: row.start,
+            to: row.end + 1,
         });
     }
     Ok(Target::Line {
-        from: start - 1,
-        to: end,
+        from: row.start - 1,
+        to: row.end,
     })
 }
 

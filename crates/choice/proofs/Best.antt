@@ -15,11 +15,10 @@ use Rattle.line.specs.declared.Name.{Name}
 use Rattle.rows.specs.Rows.{Row, read_rows, value_start}
 use Rattle.rows.specs.Title.{Key, title, same_title}
 use Rattle.rows.specs.Find.{line_length, none_bad, found_of, inside_after}
-use Rattle.rows.specs.declared.Found.{Found}
-use Rattle.rows.specs.declared.Found.TheVariants as found
+use Rattle.rows.specs.declared.Row as told
 use Rattle.rows.proofs.Step.{row_at, group_next, title-at}
 use Rattle.rows.proofs.Lines.{key_title, title-named}
-use Rattle.rows.proofs.Seek.{seek-end, seek-good, seek-told, SeekIn, in_start, in_row, in-next}
+use Rattle.rows.proofs.Seek.{seek-end, seek-good, seek-told, told_at, SeekIn, in_start, in_row, in-next}
 use Rattle.choice.specs.Locale.{stripped_key, stripped_title, first_key}
 use Rattle.choice.specs.Step.{all_keys, rank_in, rank_of}
 use Rattle.choice.proofs.Choices.{first-nowhere, place_of, better, no-better}
@@ -57,34 +56,43 @@ place-title group h r line (Err n) ks i = None ks ∙ by (same group h)
 -- ---- the best row so far
 
 -- what is told at the end: a better row of those that are left, else the best so far
-abbrev pub best_of : List ℕ → List (List ℕ) → ℕ → Found → List Row → Found
+abbrev pub best_of : List ℕ → List (List ℕ) → ℕ → Option told.Row → List Row → Option told.Row
 best_of group ks best kept rs = maybe (first_key rs group (take best ks)) kept (λ r. found_of (Some r))
 
 -- the rows from p on, and the best row before them, have the answer
-pub record Best (s group : List ℕ) (ks : List (List ℕ)) (p n : ℕ) (inside : Bool) (best : ℕ) (kept : Found) : Type 0 where
+pub record Best (s group : List ℕ) (ks : List (List ℕ)) (p n : ℕ) (inside : Bool) (best : ℕ) (kept : Option told.Row) : Type 0 where
   pub walk : SeekIn s group (best_of group ks best kept) (found_of (first_key (read_rows s) group ks)) p n inside
   pub most : best ≤ length ks
 
-pub best-start : (s group key locale : List ℕ) → none_bad s ≡ true → Best s group (all_keys key locale) 0 1 (eqb (length group) 0) 5 found.Nothing
-best-start s group key locale h = record { walk = in_start s group (best_of group (all_keys key locale) 5 found.Nothing) h; most = omega arith }
+-- where no row was kept, what is told at the end is what is told of the rows
+none-kept : (o : Option Row) → maybe o None (λ r. found_of (Some r)) ≡ found_of o
+none-kept None = refl
+none-kept (Some r) = refl
+
+pub best-start : (s group key locale : List ℕ) → none_bad s ≡ true → Best s group (all_keys key locale) 0 1 (eqb (length group) 0) 5 None
+best-start s group key locale h =
+    record {
+      walk = rw (← none-kept (first_key (read_rows s) group (all_keys key locale))) (in_start s group (best_of group (all_keys key locale) 5 None) h);
+      most = omega arith;
+    }
 
 -- no row is left
-pub best-end : (s group : List ℕ) (ks : List (List ℕ)) {p n : ℕ} {inside : Bool} {best : ℕ} {kept : Found} → Best s group ks p n inside best kept → length s ≤ p
+pub best-end : (s group : List ℕ) (ks : List (List ℕ)) {p n : ℕ} {inside : Bool} {best : ℕ} {kept : Option told.Row} → Best s group ks p n inside best kept → length s ≤ p
     → kept ≡ found_of (first_key (read_rows s) group ks)
 best-end s group ks {best = best} w h = rw (first-nowhere group (take best ks)) at (seek-end w.walk.seek h)
 
 -- no row can be better
-pub best-found : (s group : List ℕ) (ks : List (List ℕ)) {p n : ℕ} {inside : Bool} {best : ℕ} {kept : Found} → Best s group ks p n inside best kept → best ≡ 0
+pub best-found : (s group : List ℕ) (ks : List (List ℕ)) {p n : ℕ} {inside : Bool} {best : ℕ} {kept : Option told.Row} → Best s group ks p n inside best kept → best ≡ 0
     → kept ≡ found_of (first_key (read_rows s) group ks)
 unfolding first_key
 best-found s group ks w e = rw e at w.walk.seek.goes
 
 -- the best row and its rank under other names
-pub best-as : {s group : List ℕ} {ks : List (List ℕ)} {p n : ℕ} {inside : Bool} {best other : ℕ} {kept told : Found} → Best s group ks p n inside best kept → other ≡ best → told ≡ kept
-    → Best s group ks p n inside other told
+pub best-as : {s group : List ℕ} {ks : List (List ℕ)} {p n : ℕ} {inside : Bool} {best other : ℕ} {kept other_kept : Option told.Row} → Best s group ks p n inside best kept → other ≡ best → other_kept ≡ kept
+    → Best s group ks p n inside other other_kept
 best-as w i j = rw (i, j) w
 
-module _ (s group : List ℕ) (ks : List (List ℕ)) {p n : ℕ} {inside : Bool} {best : ℕ} {kept : Found} (w : Best s group ks p n inside best kept) {e : ℕ} (h : p < length s) (q : e ≡ p + line_length (drop p s)) where
+module _ (s group : List ℕ) (ks : List (List ℕ)) {p n : ℕ} {inside : Bool} {best : ℕ} {kept : Option told.Row} (w : Best s group ks p n inside best kept) {e : ℕ} (h : p < length s) (q : e ≡ p + line_length (drop p s)) where
   abbrev line : List ℕ
   line = part p e s
 
@@ -116,13 +124,13 @@ module _ (s group : List ℕ) (ks : List (List ℕ)) {p n : ℕ} {inside : Bool}
 
     -- the row is better
     pub best-better : t ≡ true → {r : ℕ} → r ≡ rank_of ks line (read_name line) → r < best → {v : ℕ} → v ≡ value_start (read_line line)
-        → Best s group ks (e + 1) (n + 1) t r (found.Row n p e (p + v))
+        → Best s group ks (e + 1) (n + 1) t r (told_at n p e (p + v))
     best-better j {r} u k {v} x =
         let z : place_of group row ks ≡ r = place-row ∙ rw (sym i ∙ j, u) in
-        let o : found_of (Some row) ≡ found.Row n p e (p + v) = seek-told w.walk.seek h q ∙ rw x in
+        let o : found_of (Some row) ≡ told_at n p e (p + v) = seek-told w.walk.seek h q ∙ rw x in
         rw i (record {
           walk =
-              in-next w.walk h q (best_of group ks r (found.Row n p e (p + v)))
+              in-next w.walk h q (best_of group ks r (told_at n p e (p + v)))
               (λ rs. rw (better group row rs ks best (rw z k) w.most, z, ← o) (told (first_key rs group (take r ks))));
           most = omega (arith, w.most);
         })

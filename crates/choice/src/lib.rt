@@ -14,19 +14,13 @@ ghost use Rattle.choice.specs.Locale as spec;
 ghost use Rattle.choice.specs.Step as step;
 
 use line::Parts;
-use rows::Found;
+use rows::Row;
 
 // Whether a locale without country, encoding and modifier means the plain key.
 fn is_plain_lang(s: &[u8]) -> bool
     ensures { result ≡ lists.any (lists.same s.now) spec.plain_locales }
 {
-    if rows::same(s, b"") {
-        return true;
-    }
-    if rows::same(s, b"C") {
-        return true;
-    }
-    rows::same(s, b"POSIX")
+    s.is_empty() || s == b"C".as_slice() || s == b"POSIX".as_slice()
 }
 
 // Whether a locale of these parts means the plain key.
@@ -47,10 +41,10 @@ fn is_plain(locale: &[u8], p: Parts) -> bool
 fn rank_part(asked: &[u8], has: &[u8]) -> usize
     ensures { result ≡ step.rank_part asked.now has.now }
 {
-    if rows::same(asked, has) {
+    if asked == has {
         return 0;
     }
-    if has.len() == 0 {
+    if has.is_empty() {
         return 1;
     }
     4
@@ -64,7 +58,7 @@ fn rank_postfix(s: &[u8], locale: &[u8], p: Parts) -> usize
     let q = line::read_parts(s);
     let lang = q.lang;
     let asked = p.lang;
-    if rows::same(&locale[..asked], &s[..lang]) {
+    if &locale[..asked] == &s[..lang] {
         let a = asked + p.country;
         let b = lang + q.country;
         let c = rank_part(&locale[asked..a], &s[lang..b]);
@@ -100,30 +94,30 @@ fn rank(l: &[u8], key: &[u8], locale: &[u8], p: Parts) -> usize
 }
 
 // The first row of the best rank, in a file without bad lines. A row behind it counts only where it is better.
-fn find_best(file: &[u8], group: &[u8], key: &[u8], locale: &[u8], p: Parts) -> Found
+fn find_best(file: &[u8], group: &[u8], key: &[u8], locale: &[u8], p: Parts) -> Option<Row>
     requires { (none_bad file.now ≡ true) × (lists.all key_byte key.now ≡ true) × (locale_form locale.now ≡ true) × (p ≡ parts locale.now) }
     ensures { result ≡ found_of (spec.first_key (read_rows file.now) group.now (step.all_keys key.now locale.now)) }
 {
     let mut at: usize = 0;
     let mut n: usize = 1;
-    let mut inside = group.len() == 0;
+    let mut inside = group.is_empty();
     let mut best: usize = 5;
-    let mut found = Found::Nothing;
+    let mut found = None;
     while at < file.len() {
         let e = rows::line_end(file, at);
         let l = &file[at..e];
         inside = rows::is_inside(l, group, inside);
         if inside {
-            if rows::begins(l, key) {
+            if l.starts_with(key) {
                 let r = rank(l, key, locale, p);
                 if r < best {
                     best = r;
-                    found = Found::Row {
+                    found = Some(Row {
                         line: n,
                         start: at,
                         end: e,
                         value: at + rows::value_start(l),
-                    };
+                    });
                 }
             }
         }
@@ -137,7 +131,7 @@ fn find_best(file: &[u8], group: &[u8], key: &[u8], locale: &[u8], p: Parts) -> 
 }
 
 // The row of the first present candidate, last the plain key, in a file without bad lines.
-pub fn choose_row(file: &[u8], group: &[u8], key: &[u8], locale: &[u8]) -> Found
+pub fn choose_row(file: &[u8], group: &[u8], key: &[u8], locale: &[u8]) -> Option<Row>
     requires { (none_bad file.now ≡ true) × (plain_form key.now ≡ true) × (locale_form locale.now ≡ true) }
     ensures { result ≡ found_of (spec.chosen (read_rows file.now) group.now key.now locale.now) }
 {

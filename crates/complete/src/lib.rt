@@ -13,7 +13,6 @@ ghost use Rattle.complete.specs.Step as step;
 
 use fault::Fault;
 use line::Line;
-use rows::Found;
 
 // Complete, or the fault 18.
 #[derive(Clone, Copy)]
@@ -27,15 +26,7 @@ fn has_key(file: &[u8], key: &[u8]) -> bool
     requires { none_bad file.now ≡ true }
     ensures { result ≡ has (read_rows file.now) (spec.main key.now) }
 {
-    match rows::find_key(file, b"Desktop Entry", key) {
-        Found::Row {
-            line: _,
-            start: _,
-            end: _,
-            value: _,
-        } => true,
-        Found::Nothing => false,
-    }
+    rows::find_key(file, b"Desktop Entry", key).is_some()
 }
 
 // Whether a plain key of Desktop Entry has exactly this raw value.
@@ -44,13 +35,8 @@ fn value_is(file: &[u8], key: &[u8], value: &[u8]) -> bool
     ensures { result ≡ spec.value_is (read_rows file.now) key.now value.now }
 {
     match rows::find_key(file, b"Desktop Entry", key) {
-        Found::Row {
-            line: _,
-            start: _,
-            end,
-            value: from,
-        } => rows::same(&file[from..end], value),
-        Found::Nothing => false,
+        Some(row) => &file[row.value..row.end] == value,
+        None => false,
     }
 }
 
@@ -58,7 +44,7 @@ fn value_is(file: &[u8], key: &[u8], value: &[u8]) -> bool
 fn is_type(v: &[u8]) -> bool
     ensures { result ≡ spec.known_type v.now }
 {
-    rows::same(v, b"Application") | rows::same(v, b"Link") | rows::same(v, b"Directory")
+    v == b"Application".as_slice() || v == b"Link".as_slice() || v == b"Directory".as_slice()
 }
 
 // Exec is there for an application, unless DBusActivatable is `true`.
@@ -90,18 +76,18 @@ fn url_where_due(file: &[u8]) -> bool
 fn is_boolean_key(name: &[u8]) -> bool
     ensures { result ≡ step.boolean_key name.now }
 {
-    rows::same(b"NoDisplay", name)
-        | rows::same(b"Hidden", name)
-        | rows::same(b"DBusActivatable", name)
-        | rows::same(b"Terminal", name)
-        | rows::same(b"StartupNotify", name)
+    name == b"NoDisplay".as_slice()
+        || name == b"Hidden".as_slice()
+        || name == b"DBusActivatable".as_slice()
+        || name == b"Terminal".as_slice()
+        || name == b"StartupNotify".as_slice()
 }
 
 // Whether a value is `true` or `false`.
 fn is_boolean(v: &[u8]) -> bool
     ensures { result ≡ spec.is_boolean v.now }
 {
-    rows::same(v, b"true") | rows::same(v, b"false")
+    v == b"true".as_slice() || v == b"false".as_slice()
 }
 
 // Name is there, and Exec and URL where they are due.
@@ -128,7 +114,7 @@ fn is_desktop_entry(l: &[u8]) -> bool
     ensures { result ≡ same title.desktop_entry (part 1 (length l.now - 1) l.now) }
 {
     let t = l.len() - 1;
-    rows::same(b"Desktop Entry", &l[1..t])
+    &l[1..t] == b"Desktop Entry".as_slice()
 }
 
 // The first boolean key of Desktop Entry with another value, in a file without bad lines.
@@ -167,20 +153,14 @@ pub fn complete_rows(file: &[u8]) -> Completed
     requires { none_bad file.now ≡ true }
     ensures { step.completed result ≡ spec.complete_rows (read_rows file.now) }
 {
-    let Found::Row {
-        line,
-        start: _,
-        end,
-        value,
-    } = rows::find_key(file, b"Desktop Entry", b"Type")
-    else {
+    let Some(row) = rows::find_key(file, b"Desktop Entry", b"Type") else {
         return Completed::Refused(Fault::Incomplete { line: 0 });
     };
-    if is_type(&file[value..end]) {
+    if is_type(&file[row.value..row.end]) {
         if has_keys(file) {
             return check_booleans(file);
         }
         return Completed::Refused(Fault::Incomplete { line: 0 });
     }
-    Completed::Refused(Fault::Incomplete { line })
+    Completed::Refused(Fault::Incomplete { line: row.line })
 }

@@ -1,13 +1,12 @@
 -- Lookup: the raw value of a key with its postfix in a group (01, "What the caller is told"). Assumes nothing.
-use Rattle.std.specs.Prelude.{ℕ, ◌+◌, ◌&&◌, List, [], length, Ok, Err}
+use Rattle.std.specs.Prelude.{ℕ, ◌+◌, ◌&&◌, List, [], length, Option, Some, None, Ok, Err}
 use Rattle.base.specs.Lists.{part}
 use Rattle.fault.specs.declared.Fault.TheVariants.{BadArgument, Missing}
 use Rattle.fault.specs.Answer.{Answer, ◌>>=◌, need, some_or}
 use Rattle.line.specs.Form.{group_form, key_form}
 use Rattle.rows.specs.Rows.{Row, line_of, read_rows, value_start}
 use Rattle.rows.specs.Title.{Key, find_row}
-use Rattle.rows.specs.declared.Found.{Found}
-use Rattle.rows.specs.declared.Found.TheVariants as found
+use Rattle.rows.specs.declared.Row as told
 use Rattle.wellformed.specs.Check.{check}
 use Rattle.entry.specs.declared.Ends.{Ends}
 use Rattle.entry.specs.declared.Ends.TheVariants as ends
@@ -40,6 +39,6 @@ part_of file (Ok e) = part e.from e.to file
 part_of file (Err f) = []
 
 -- the ends that finding a row tells
-abbrev pub ends_of : Found → Ends
-ends_of (found.Row line start end value) = ends.At value end
-ends_of found.Nothing = ends.Refused Missing
+abbrev pub ends_of : Option told.Row → Ends
+ends_of (Some r) = ends.At r.value r.end
+ends_of None = ends.Refused Missing

@@ -12,7 +12,7 @@ ghost use Rattle.wellformed.specs.Check as check;
 
 use complete::Completed;
 use fault::Fault;
-use rows::Found;
+use rows::Row;
 use wellformed::Checked;
 
 // The two ends of a value in the file, the end exclusive, or the refusal.
@@ -23,20 +23,15 @@ pub enum Ends {
 }
 
 // The ends of a row's value.
-fn ends_of(f: Found) -> Ends
+fn ends_of(f: Option<Row>) -> Ends
     ensures { result ≡ spec.ends_of f }
 {
     match f {
-        Found::Row {
-            line: _,
-            start: _,
-            end,
-            value,
-        } => Ends::At {
-            from: value,
-            to: end,
+        Some(row) => Ends::At {
+            from: row.value,
+            to: row.end,
         },
-        Found::Nothing => Ends::Refused(Fault::Missing),
+        None => Ends::Refused(Fault::Missing),
     }
 }
 

@@ -19,7 +19,6 @@ use Rattle.text.proofs.OutputLaws.{Leaves, leaves-refused}
 use Rattle.rows.specs.Rows.{Row, read_rows}
 use Rattle.rows.specs.Title.{Key, find_row, desktop_entry}
 use Rattle.rows.specs.Find.{found_of}
-use Rattle.rows.specs.declared.Found.TheVariants as found
 use Rattle.rows.proofs.Told.{told-nothing}
 use Rattle.command.specs.Words.{words}
 use Rattle.command.specs.Command.{Argument, has_piece, is_item, is_name, is_icon, words_fault, arguments_in, read_command}
@@ -94,7 +93,7 @@ module _ (file group locale location : List ℕ) (items : List (List ℕ)) (run 
   abbrev exec_row : Option Row
   exec_row = find_row (read_rows file) (Key group (ascii "Exec"))
 
-  pub group-missing : found_of exec_row ≡ found.Nothing → of_group ≡ Err Missing
+  pub group-missing : found_of exec_row ≡ None → of_group ≡ Err Missing
   unfolding group_arguments
   group-missing i = rw (told-nothing exec_row i)
 

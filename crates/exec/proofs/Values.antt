@@ -23,7 +23,7 @@ use Rattle.text.specs.declared.Escapes.{Escapes}
 use Rattle.rows.specs.Rows.{Row, read_rows, raw_value}
 use Rattle.rows.specs.Title.{Title, find_row, desktop_entry}
 use Rattle.rows.specs.Find.{found_of}
-use Rattle.rows.specs.declared.Found.TheVariants as found
+use Rattle.rows.specs.declared.Row as told
 use Rattle.rows.proofs.Told.{Told, told-row}
 use Rattle.choice.specs.Locale.{chosen}
 use Rattle.entry.specs.Lookup as ends
@@ -103,7 +103,7 @@ pub record Value (o : Option Row) (file : List ℕ) (from to : ℕ) : Type 0 whe
 pub value-short : {o : Option Row} {file : List ℕ} {from to : ℕ} → Value o file from to → length (part from to file) ≤ length file
 value-short {file = file} {from = from} {to = to} w = part-short from to file w.inside
 
-row-value : (file : List ℕ) (t : Title) (r : Row) → find_row (read_rows file) t ≡ Some r → {n p e v : ℕ} → Told r n p e v → Value (find_row (read_rows file) t) file v e
+row-value : (file : List ℕ) (t : Title) (r : Row) → find_row (read_rows file) t ≡ Some r → {w : told.Row} → Told r w → Value (find_row (read_rows file) t) file w.value w.end
 unfolding ends.value_ends
 row-value file t r i w =
     let b = row_inside file t r i in
@@ -115,9 +115,9 @@ row-value file t r i w =
       bytes = rw (w.end_is, w.value-is) (row-stands file t r i);
     }
 
-pub key-value : (file : List ℕ) (t : Title) {n p e v : ℕ} → found_of (find_row (read_rows file) t) ≡ found.Row n p e v → Value (find_row (read_rows file) t) file v e
-key-value file t {n} {p} {e} {v} i =
-    let a = told-row (find_row (read_rows file) t) n p e v i in
+pub key-value : (file : List ℕ) (t : Title) {w : told.Row} → found_of (find_row (read_rows file) t) ≡ Some w → Value (find_row (read_rows file) t) file w.value w.end
+key-value file t {w} i =
+    let a = told-row (find_row (read_rows file) t) w i in
     row-value file t a.0 a.1 a.2
 
 -- its text, read to a buffer

@@ -23,7 +23,6 @@ ghost use Rattle.exec.specs.Step.{asked_as};
 use command::{Checked, Seen};
 use fault::Fault;
 use record::Bounds;
-use rows::Found;
 use wellformed::Checked as FileChecked;
 
 // What was asked: how many items there are, or the refusal.
@@ -138,17 +137,11 @@ pub fn expand_group(
     ensures output { out.new ≡ held (then (list_of 3) (spec.group_arguments (read_rows file.now) group.now
         locale.now location.now (items_in list.now) run)) out.old }
 {
-    let Found::Row {
-        line: _,
-        start: _,
-        end,
-        value,
-    } = rows::find_key(file, group, b"Exec")
-    else {
+    let Some(row) = rows::find_key(file, group, b"Exec") else {
         return Err(Fault::Missing);
     };
     let mut exec = [0u8; base::FILE_MOST];
-    let exec_end = texts::read_whole(&file[value..end], &mut exec)?;
+    let exec_end = texts::read_whole(&file[row.value..row.end], &mut exec)?;
     match command::check_command(&exec[..exec_end]) {
         Checked::Refused(f) => Err(f),
         Checked::Sound(seen) => run_command(

@@ -5,7 +5,7 @@ use Prim.Native.Nat.{ℕ, ◌-◌, ◌≤◌, ◌<◌}
 use native.Mathlib.Omega.{arith}
 use mathlib.Core.Bool.{Bool, true, false, ◌&&◌, and-false, and_assoc, false≢true}
 use mathlib.Core.List.{List, [], ◌∷◌, ◌++◌}
-use lib.ListN.{length, take, drop, length-take}
+use lib.ListN.{length, take, drop}
 use lib.Seq.{length-take-le}
 use lib.Dec.{eqb}
 use borrow.Author.Tests.{eqb-true, eqb-false}
@@ -34,6 +34,14 @@ value-le l = go (read_line l) (line-within l)
     go (Header e) h = omega arith
     go (Entry key name value) h = h.3
     go (Bad n) h = omega arith
+
+-- what is no entry has none
+pub value-none : (r : Line) → ((key name value : ℕ) → r ≡ Entry key name value → ⊥) → 0 ≡ value_start r
+value-none Blank h = refl
+value-none Comment h = refl
+value-none (Header e) h = refl
+value-none (Entry key name value) h = absurd (h key name value refl)
+value-none (Bad n) h = refl
 
 -- ---- a good line that starts with `[`
 
@@ -145,11 +153,6 @@ not-front k l f = go (read_name l) (name-within l)
     go : (m : Result Name ℕ) → NamedWithin (length l) m → named_as k l m ≡ false
     go (Ok n) h = by-test (same k (take n.name l)) (λ t. absurd (false≢true (sym f ∙ rw (same_length k l n.name h.2 t) t))) (λ e. e)
     go (Err n) h = refl
-
--- a line that is shorter does not begin with the key
-pub too_short : (k l : List ℕ) → length l < length k → same k (take (length k) l) ≡ false
-too_short k l h =
-    by-test (same k (take (length k) l)) (λ t. absurd (omega (arith, ap length (same_true k (take (length k) l) t), length-take (length k) l))) (λ e. e)
 
 -- two parts, one after the other, are compared part by part
 pub joined_same : (f r s : List ℕ) → same (f ++ r) s ≡ (same f (take (length f) s) && same r (drop (length f) s))

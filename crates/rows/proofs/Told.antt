@@ -1,5 +1,5 @@
 -- What is told of a row that was found: it stands in the file between the places told. Assumes nothing.
-use Rattle.std.specs.Prelude.{Option, Some, None}
+use Rattle.std.specs.Prelude.{Option, Some, None, is_some}
 use mathlib.Core.Path.{◌≡◌, refl, sym, ap, ◌∙◌}
 use Prim.Native.Nat.{ℕ, ◌+◌, ◌-◌, ◌≤◌}
 use native.Mathlib.Nat.{add-zero}
@@ -8,6 +8,7 @@ use mathlib.Core.Bool.{Bool}
 use mathlib.Core.List.{List, [], ◌∷◌, ◌++◌, append_assoc}
 use lib.ListN.{length, take, drop, length-append, length-drop}
 use lib.Seq.{take_at, drop_at, drop-drop, drop-append-le}
+use Rattle.base.specs.Choice.{there}
 use Rattle.base.specs.Lists.{part, first, joined}
 use Rattle.base.proofs.Tests.{no}
 use Rattle.base.proofs.Lists.{joined-append}
@@ -15,26 +16,31 @@ use Rattle.line.specs.Line.{read_line}
 use Rattle.rows.specs.Rows.{Row, rows, line_of, read_rows, value_start}
 use Rattle.rows.specs.Title.{Title, title, same_title, find_row}
 use Rattle.rows.specs.Find.{found_of}
-use Rattle.rows.specs.declared.Found.TheVariants as told
+use Rattle.rows.specs.declared.Row as told
 use Rattle.rows.proofs.Rows.{joined-rows, row-split, Found, found_first}
 use Rattle.rows.proofs.Lines.{value-le}
 
 -- ---- the row behind what is told
 
 -- the places of a row
-pub record Told (r : Row) (n p e v : ℕ) : Type 0 where
-  pub line-is : n ≡ r.line
-  pub start_is : p ≡ r.start
-  pub end_is : e ≡ r.start + length (line_of r.bytes)
-  pub value-is : v ≡ r.start + value_start r.reading
+pub record Told (r : Row) (w : told.Row) : Type 0 where
+  pub line-is : w.line ≡ r.line
+  pub start_is : w.start ≡ r.start
+  pub end_is : w.end ≡ r.start + length (line_of r.bytes)
+  pub value-is : w.value ≡ r.start + value_start r.reading
 
-pub told-row : (o : Option Row) (n p e v : ℕ) → found_of o ≡ told.Row n p e v → (r : Row) × (o ≡ Some r) × Told r n p e v
-told-row None n p e v i = no (cc)
-told-row (Some r) n p e v i = (r, refl, record { line-is = cc; start_is = cc; end_is = cc; value-is = cc })
+pub told-row : (o : Option Row) (w : told.Row) → found_of o ≡ Some w → (r : Row) × (o ≡ Some r) × Told r w
+told-row None w i = no (cc)
+told-row (Some r) w i = (r, refl, record { line-is = cc; start_is = cc; end_is = cc; value-is = cc })
 
-pub told-nothing : (o : Option Row) → found_of o ≡ told.Nothing → o ≡ None
+pub told-nothing : (o : Option Row) → found_of o ≡ None → o ≡ None
 told-nothing None i = refl
 told-nothing (Some r) i = no (cc)
+
+-- a search found a row where there is one
+pub found-there : (o : Option Row) {f : Option told.Row} {b : Bool} → b ≡ is_some f → f ≡ found_of o → there o ≡ b
+found-there None x y = rw (x, y)
+found-there (Some r) x y = rw (x, y)
 
 -- ---- the row in the file
 
@@ -94,11 +100,11 @@ module _ (f : List ℕ) {p : Row → Bool} {r : Row} (w : Found p 0 [] (rows f) 
 
 -- ---- the places told, in their order
 
-pub told_bounds : (f : List ℕ) (t : Title) (n p e v : ℕ) → found_of (find_row (read_rows f) t) ≡ told.Row n p e v → (p ≤ v) × (v ≤ e) × (e ≤ length f)
-told_bounds f t n p e v i =
-    let a = told-row (find_row (read_rows f) t) n p e v i in
-    let w = found-row f t a.0 a.1 in
-    let l = line-inside f w in
-    let m = value-inside f w in
+pub told_bounds : (f : List ℕ) (t : Title) (w : told.Row) → found_of (find_row (read_rows f) t) ≡ Some w → (w.start ≤ w.value) × (w.value ≤ w.end) × (w.end ≤ length f)
+told_bounds f t w i =
+    let a = told-row (find_row (read_rows f) t) w i in
+    let s = found-row f t a.0 a.1 in
+    let l = line-inside f s in
+    let m = value-inside f s in
     let b = a.2 in
     (omega arith, omega arith, omega arith)

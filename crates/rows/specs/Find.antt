@@ -1,15 +1,14 @@
 -- What the functions of this crate answer, by the definitions of rows. Assumes nothing.
-use Rattle.std.specs.Prelude.{ℕ, suc, ◌+◌, Bool, false, not, List, [], ◌∷◌, length, take, eqb, Option, Result, Ok, Err}
+use Rattle.std.specs.Prelude.{ℕ, suc, ◌+◌, Bool, false, not, List, [], ◌∷◌, length, take, eqb, Option, option_map, Result, Ok, Err}
 use Prim.Native.Char.{code}
-use Rattle.base.specs.Choice.{pick, maybe}
+use Rattle.base.specs.Choice.{pick}
 use Rattle.base.specs.Lists.{same, part, any}
 use Rattle.line.specs.declared.Name.{Name}
 use Rattle.line.specs.declared.Line.{Line}
 use Rattle.line.specs.declared.Line.TheVariants.{Blank, Comment, Header, Entry, Bad}
 use Rattle.line.specs.Line.{is_bad}
 use Rattle.rows.specs.Rows.{Row, line_of, read_rows, value_start}
-use Rattle.rows.specs.declared.Found.{Found}
-use Rattle.rows.specs.declared.Found.TheVariants as found
+use Rattle.rows.specs.declared.Row as told
 
 -- a byte of a line: any but LF
 abbrev pub no_lf : ℕ → Bool
@@ -25,8 +24,12 @@ unfoldable pub none_bad : List ℕ → Bool
 none_bad file = not (any (λ r. is_bad r.reading) (read_rows file))
 
 -- what is told of a row: its number, where it starts, where its line ends, where its value starts
-abbrev pub found_of : Option Row → Found
-found_of o = maybe o found.Nothing (λ r. found.Row r.line r.start (r.start + length (line_of r.bytes)) (r.start + value_start r.reading))
+abbrev pub places : Row → told.Row
+places r = record { line = r.line; start = r.start; end = r.start + length (line_of r.bytes); value = r.start + value_start r.reading }
+
+-- the same of a row that may be there
+abbrev pub found_of : Option Row → Option told.Row
+found_of = option_map places
 
 -- the line's key with its postfix is this one
 abbrev pub named_as : List ℕ → List ℕ → Result Name ℕ → Bool

@@ -11,16 +11,13 @@ ghost use Rattle.rows.specs.Find.{no_lf, line_length, none_bad, found_of, named_
 
 use line::Line;
 
-// A row of a file: its number, where it starts, where its line ends, where its value starts (an entry's; else the row's start).
+// Where a row of a file stands: its number, where it starts, where its line ends, where its value starts (an entry's; else the row's start).
 #[derive(Clone, Copy)]
-pub enum Found {
-    Row {
-        line: usize,
-        start: usize,
-        end: usize,
-        value: usize,
-    },
-    Nothing,
+pub struct Row {
+    pub line: usize,
+    pub start: usize,
+    pub end: usize,
+    pub value: usize,
 }
 
 // Whether none of sixteen bytes is an LF. The loop has no way out, so that it becomes one comparison of sixteen bytes.
@@ -41,18 +38,17 @@ fn clear(s: &[u8], i: usize) -> bool
     n == 0
 }
 
-// The end of a line, byte by byte.
+// The end of a line that begins inside, byte by byte.
 fn near_end(s: &[u8], from: usize) -> usize
+    requires { from ≤ length s.now }
     ensures { result ≡ from + line_length (drop from s.now) }
 {
-    let mut i = from;
-    while i < s.len() {
+    for i in from..s.len() {
         if s[i] == b'\n' {
             return i;
         }
-        i += 1;
     }
-    i
+    s.len()
 }
 
 // The next LF, where there is one.
@@ -85,39 +81,11 @@ pub fn line_end(s: &[u8], from: usize) -> usize
     i
 }
 
-// Byte for byte the same.
-pub fn same(a: &[u8], b: &[u8]) -> bool
-    ensures { result ≡ lists.same a.now b.now }
-{
-    if a.len() != b.len() {
-        return false;
-    }
-    let mut i: usize = 0;
-    while i < a.len() {
-        if a[i] != b[i] {
-            return false;
-        }
-        i += 1;
-    }
-    true
-}
-
-// Whether a line begins with these bytes. Most lines differ from a key in their first byte.
-pub fn begins(l: &[u8], key: &[u8]) -> bool
-    ensures { result ≡ lists.same key.now (take (length key.now) l.now) }
-{
-    let n = key.len();
-    if l.len() < n {
-        return false;
-    }
-    same(key, &l[..n])
-}
-
 // Whether a line's key with its postfix is this one.
 fn is_named(l: &[u8], key: &[u8]) -> bool
     ensures { result ≡ named_as key.now l.now (read_name l.now) }
 {
-    begins(l, key) && line::read_name(l).is_ok_and(|n| n.name == key.len())
+    l.starts_with(key) && line::read_name(l).is_ok_and(|n| n.name == key.len())
 }
 
 // Where an entry's value starts in its line; 0 for another line.
@@ -137,55 +105,51 @@ pub fn is_inside(l: &[u8], group: &[u8], inside: bool) -> bool
 {
     if line::byte_at(l, 0) == b'[' {
         let t = l.len() - 1;
-        return same(group, &l[1..t]);
+        return group == &l[1..t];
     }
     inside
 }
 
 // The first row of a key with its postfix in a group, in a file without bad lines.
-pub fn find_key(file: &[u8], group: &[u8], key: &[u8]) -> Found
+pub fn find_key(file: &[u8], group: &[u8], key: &[u8]) -> Option<Row>
     requires { none_bad file.now ≡ true }
     ensures { result ≡ found_of (title.find_row (read_rows file.now) (title.Key group.now key.now)) }
 {
     let mut p: usize = 0;
     let mut n: usize = 1;
-    let mut inside = group.len() == 0;
+    let mut inside = group.is_empty();
     while p < file.len() {
         let e = line_end(file, p);
         let l = &file[p..e];
         inside = is_inside(l, group, inside);
         if inside {
             if is_named(l, key) {
-                return Found::Row {
+                return Some(Row {
                     line: n,
                     start: p,
                     end: e,
                     value: p + value_start(l),
-                };
+                });
             }
         }
         p = e + 1;
         n += 1;
     }
-    Found::Nothing
+    None
 }
 
 // Whether bytes are two parts, one after the other.
 fn is_joined(s: &[u8], front: &[u8], rest: &[u8]) -> bool
     ensures { result ≡ lists.same (front.now ++ rest.now) s.now }
 {
-    let n = front.len();
-    if s.len() < n {
+    let Some(tail) = s.strip_prefix(front) else {
         return false;
-    }
-    if same(rest, &s[n..]) {
-        return same(front, &s[..n]);
-    }
-    false
+    };
+    rest == tail
 }
 
 // The header of a group whose name is two parts, one after the other, in a file without bad lines.
-pub fn find_group(file: &[u8], front: &[u8], rest: &[u8]) -> Found
+pub fn find_group(file: &[u8], front: &[u8], rest: &[u8]) -> Option<Row>
     requires { none_bad file.now ≡ true }
     ensures { result ≡ found_of (title.find_row (read_rows file.now) (title.Group (front.now ++ rest.now))) }
 {
@@ -197,12 +161,12 @@ pub fn find_group(file: &[u8], front: &[u8], rest: &[u8]) -> Found
         if line::byte_at(l, 0) == b'[' {
             let t = l.len() - 1;
             if is_joined(&l[1..t], front, rest) {
-                return Found::Row {
+                return Some(Row {
                     line: n,
                     start: p,
                     end: e,
                     value: p,
-                };
+                });
             }
             p = e + 1;
             n += 1;
@@ -211,5 +175,5 @@ pub fn find_group(file: &[u8], front: &[u8], rest: &[u8]) -> Found
             n += 1;
         }
     }
-    Found::Nothing
+    None
 }

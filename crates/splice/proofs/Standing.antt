@@ -1,14 +1,16 @@
--- Bytes compared with those at a place of a file, one after another. Assumes nothing.
-use mathlib.Core.Path.{◌≡◌}
-use mathlib.Core.Bool.{true, false}
-use mathlib.Core.List.{List, ◌∷◌}
-use Prim.Native.Nat.{ℕ, suc, ◌+◌, ◌-◌, ◌≤◌, ◌<◌}
-use native.Mathlib.Nat.{add-zero}
+-- Bytes at a place of a file: what is left of the file from there on begins with them. Assumes nothing.
+use mathlib.Core.Path.{◌≡◌, ap}
+use mathlib.Core.Bool.{false}
+use mathlib.Core.List.{List}
+use Prim.Native.Nat.{ℕ, ◌+◌, ◌-◌, ◌≤◌, ◌<◌}
 use native.Mathlib.Omega.{arith}
-use borrow.Author.Tests.{le-leb, lt-leb, eq-eqb, ne_eqb}
-use lib.ListN.{length, drop, get_or}
-use Rattle.base.specs.Lists.{same, part}
-use Rattle.base.proofs.Scan.{here, done}
+use borrow.Author.Tests.{leb-false, lt-leb}
+use lib.Dec.{eqb, leb}
+use lib.ListN.{length, take, drop, length-take, length-drop}
+use lib.Pointwise.{pointwise}
+use Rattle.base.specs.Lists.{same}
+use Rattle.base.proofs.Tail.{lent, tail-lent}
+use Rattle.base.proofs.Tests.{by-test, same_true, same-sym, pointwise_same}
 use Rattle.splice.specs.Edit.{stands_at}
 
 -- not all inside the file
@@ -16,34 +18,20 @@ pub stands-outside : (file : List ℕ) (place : ℕ) (old : List ℕ) → length
 unfolding stands_at
 stands-outside file place old h = rw (lt-leb _ _ h)
 
--- the bytes from the i-th on are left to compare
-pub record Comparing (file : List ℕ) (place : ℕ) (old : List ℕ) (i : ℕ) : Type 0 where
-  pub inside : place + length old ≤ length file
-  pub most : i ≤ length old
-  pub left : same (part (place + i) (place + length old) file) (drop i old) ≡ stands_at place old file
+-- bytes that are longer do not stand at the front
+longer : (old rest : List ℕ) → length rest < length old → same old (take (length old) rest) ≡ false
+longer old rest h =
+    by-test (same old (take (length old) rest))
+    (λ t. absurd (omega (arith, ap length (same_true old (take (length old) rest) t), length-take (length old) rest)))
+    (λ f. f)
 
-pub compare-begin : (file : List ℕ) (place : ℕ) (old : List ℕ) → place + length old ≤ length file → Comparing file place old 0
+-- what is left from the place on begins with the old bytes
+pub stands-begins : (file : List ℕ) (place : ℕ) (old : List ℕ) → place ≤ length file → pointwise eqb old (take (length old) (lent place file)) ≡ stands_at place old file
 unfolding stands_at
-compare-begin file place old h = record { inside = h; most = omega arith; left = rw (le-leb _ _ h, add-zero) }
-
-module _ {file : List ℕ} {place : ℕ} {old : List ℕ} {i : ℕ} (w : Comparing file place old i) where
-  -- the next byte of the file, and those behind it
-  next : i < length old → part (place + i) (place + length old) file ≡ get_or file (place + i) 0 ∷ part (place + (i + 1)) (place + length old) file
-  next h =
-      let n : place + length old - (place + i) ≡ suc (place + length old - (place + (i + 1))) = omega (arith, w.inside) in
-      let e : place + i + 1 ≡ place + (i + 1) = omega arith in
-      rw (n, here file (place + i) (omega (arith, w.inside)), e)
-
-  pub compare-differs : i < length old → (get_or file (place + i) 0 ≡ get_or old i 0 → ⊥) → false ≡ stands_at place old file
-  unfolding same
-  compare-differs h n = rw (next h, here old i h, ne_eqb _ _ n) at w.left
-
-  pub compare-goes : i < length old → get_or file (place + i) 0 ≡ get_or old i 0 → Comparing file place old (i + 1)
-  unfolding same
-  compare-goes h e = record { inside = w.inside; most = omega arith; left = rw (next h, here old i h, eq-eqb _ _ e) at w.left }
-
-  pub compare-ends : length old ≤ i → true ≡ stands_at place old file
-  unfolding same
-  compare-ends h =
-      let n : place + length old - (place + i) ≡ 0 = omega arith in
-      rw (n, done old i h) at w.left
+stands-begins file place old h =
+    let rest : List ℕ = drop place file in
+    let n : place + length old - place ≡ length old = omega arith in
+    rw (tail-lent place file, pointwise_same, n)
+    (by-test (leb (place + length old) (length file))
+    (λ t. rw t (same-sym old (take (length old) rest)))
+    (λ f. rw f (longer old rest (simp length-drop (omega (arith, leb-false _ _ f))))))

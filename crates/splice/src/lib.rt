@@ -9,20 +9,10 @@ ghost use Rattle.splice.specs.Edit.{replaced, stands_at, buffer_with};
 pub fn stands(file: &[u8], place: usize, old: &[u8]) -> bool
     ensures { result ≡ stands_at place old.now file.now }
 {
-    if file.len() < place {
+    let Some(rest) = file.get(place..) else {
         return false;
-    }
-    if file.len() - place < old.len() {
-        return false;
-    }
-    let mut i = 0;
-    while i < old.len() {
-        if file[place + i] != old[i] {
-            return false;
-        }
-        i += 1;
-    }
-    true
+    };
+    rest.starts_with(old)
 }
 
 // Bytes written from a place on; the answer is where they end.
@@ -34,41 +24,13 @@ pub fn write(buffer: &mut [u8], place: usize, new: &[u8]) -> usize
     place + new.len()
 }
 
-// The n bytes from a place on, moved to a lower place, the first byte first. It becomes moves of sixteen bytes.
-fn move_down(buffer: &mut [u8], from: usize, to: usize, n: usize)
-    requires { (to ≤ from) × (from + n ≤ length buffer.old) }
-    ensures { buffer.new ≡ over buffer.old to (take n (drop from buffer.old)) }
-{
-    let mut i = 0;
-    while i < n {
-        buffer[to + i] = buffer[from + i];
-        i += 1;
-    }
-}
-
-// The same to a higher place, the last byte first.
-fn move_up(buffer: &mut [u8], from: usize, to: usize, n: usize)
-    requires { (from ≤ to) × (to + n ≤ length buffer.old) }
-    ensures { buffer.new ≡ over buffer.old to (take n (drop from buffer.old)) }
-{
-    let mut i = n;
-    while 0 < i {
-        i -= 1;
-        buffer[to + i] = buffer[from + i];
-    }
-}
-
-// The same to any place; nothing moves where both are one.
+// The n bytes from a place on, moved to another; nothing moves where both are one.
 fn shift(buffer: &mut [u8], from: usize, to: usize, n: usize)
     requires { (from + n ≤ length buffer.old) × (to + n ≤ length buffer.old) }
     ensures { buffer.new ≡ over buffer.old to (take n (drop from buffer.old)) }
 {
-    if from < to {
-        move_up(buffer, from, to, n);
-        return;
-    }
-    if to < from {
-        move_down(buffer, from, to, n);
+    if from != to {
+        buffer.copy_within(from..from + n, to);
     }
 }
 
@@ -77,10 +39,8 @@ fn clear(buffer: &mut [u8], from: usize, to: usize)
     requires { (from ≤ length buffer.old) × (to ≤ length buffer.old) }
     ensures { buffer.new ≡ over buffer.old from (replicate (to - from) 0) }
 {
-    let mut i = from;
-    while i < to {
-        buffer[i] = 0;
-        i += 1;
+    if from < to {
+        buffer[from..to].fill(0);
     }
 }
 

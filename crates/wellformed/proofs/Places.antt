@@ -1,30 +1,20 @@
 -- The parts of the file that a state holds, and the row that is read in it. Assumes nothing.
-use Rattle.std.specs.Prelude.{Option, Some, None}
 use mathlib.Core.Path.{◌≡◌, sym, ap, ◌∙◌}
 use Prim.Native.Nat.{ℕ, ◌+◌, ◌-◌, ◌%◌, ◌<◌}
 use native.Mathlib.Omega.{arith}
-use mathlib.Core.Bool.{Bool}
 use mathlib.Core.List.{List}
 use lib.ListN.{length, take, drop, length-drop}
 use lib.Seq.{length-take-le}
-use Rattle.base.specs.Choice.{there}
 use Rattle.base.specs.Lists.{part}
 use Rattle.base.proofs.Parts.{drop-part, take_part}
 use Rattle.line.specs.Line.{read_line}
 use Rattle.line.specs.declared.Line.{Line}
 use Rattle.line.specs.declared.Line.TheVariants.{Blank, Comment, Header, Entry, Bad}
 use Rattle.line.proofs.Bounds.{LineWithin, line-within}
-use Rattle.rows.specs.Rows.{Row}
-use Rattle.rows.specs.Find.{line_length, found_of}
-use Rattle.rows.specs.declared.Found.{Found}
+use Rattle.rows.specs.Find.{line_length}
 use Rattle.rows.proofs.Step.{start-le, end-le}
 use Rattle.wellformed.specs.declared.Part.{Part}
-use Rattle.wellformed.specs.Pass.{bytes, Lies, Reads, is_found}
-
--- a search that found a row
-pub found-is : (o : Option Row) {f : Found} {b : Bool} → b ≡ is_found f → f ≡ found_of o → there o ≡ b
-found-is None x y = rw (x, y)
-found-is (Some r) x y = rw (x, y)
+use Rattle.wellformed.specs.Pass.{bytes, Lies, Reads}
 
 pub bytes-length : (file : List ℕ) (x : Part) → Lies file x → length (bytes file x) ≡ x.len
 bytes-length file x h = length-take-le x.len (drop x.from file) (simp length-drop (omega arith))

@@ -1,5 +1,5 @@
 -- The rule of plain keys: what the state tells of the rows before, and the second pass row by row. Assumes nothing.
-use Rattle.std.specs.Prelude.{Option, Some, None, Ok, Err}
+use Rattle.std.specs.Prelude.{Option, Ok, Err}
 use mathlib.Core.Path.{◌≡◌, refl, sym, ap, ◌∙◌}
 use Prim.Native.Nat.{ℕ, ◌+◌, ◌≤◌, ◌<◌}
 use native.Mathlib.Omega.{arith}
@@ -9,7 +9,7 @@ use lib.ListN.{length, take, drop}
 use lib.Seq.{take-take}
 use lib.Dec.{eqb}
 use borrow.Author.Tests.{eqb-true, not-false}
-use Rattle.base.specs.Choice.{pick, maybe, there}
+use Rattle.base.specs.Choice.{pick, maybe}
 use Rattle.base.specs.Lists.{same, part, any, first}
 use Rattle.base.proofs.Tests.{no, by-test, same_refl, same_true}
 use Rattle.base.proofs.Search.{there-first, any_append, first-none}
@@ -22,8 +22,7 @@ use Rattle.line.specs.declared.Line.TheVariants.{Blank, Comment, Header, Entry, 
 use Rattle.line.proofs.Entries.{entry_key}
 use Rattle.rows.specs.Rows.{Row, rows, group_after, rows_from, read_rows}
 use Rattle.rows.specs.Title.{Title, Key, title_of, title, same_title, find_row, has}
-use Rattle.rows.specs.Find.{line_length, found_of}
-use Rattle.rows.specs.declared.Found.TheVariants as found
+use Rattle.rows.specs.Find.{line_length}
 use Rattle.rows.proofs.Step.{row_at, title_at, no_row, title-at, row_step, Prefix, prefix-start, prefix-end, prefix-rest, prefix-read, prefix-next}
 use Rattle.wellformed.specs.declared.Part.{Part}
 use Rattle.wellformed.specs.declared.State.{State}
@@ -31,15 +30,6 @@ use Rattle.wellformed.specs.Check.{plain_of, plain_title, wanted, no_plain, plai
 use Rattle.wellformed.specs.Pass.{bytes, Lies, Within, start, after, LastThere, plain_at}
 use Rattle.wellformed.proofs.Lists.{or-true, any_last, pick-by}
 use Rattle.wellformed.proofs.Places.{bytes-length, reads-within, tag_after, reads, name-lies, name-bytes, key-lies, key-bytes}
-
--- what was told of a row says whether there is one
-pub told-there : (o : Option Row) {line start end at : ℕ} → found.Row line start end at ≡ found_of o → there o ≡ true
-told-there None y = no (cc)
-told-there (Some r) y = refl
-
-pub told-missing : (o : Option Row) → found.Nothing ≡ found_of o → there o ≡ false
-told-missing None y = refl
-told-missing (Some r) y = no (cc)
 
 -- the same bytes are there under either part
 pub there-as : (file group : List ℕ) (y x : Part) → Lies file y → Lies file x → 0 < x.len → same (bytes file y) (bytes file x) ≡ true

@@ -11,8 +11,6 @@ use Rattle.line.specs.declared.Line.TheVariants.{Blank, Comment, Header, Entry, 
 use Rattle.marks.specs.Marks.{marked, with_mark}
 use Rattle.rows.specs.Rows.{Row, group_after, read_rows}
 use Rattle.rows.specs.Title.{Title, Nameless, Group, Key, title_of, same_title, has}
-use Rattle.rows.specs.declared.Found.{Found}
-use Rattle.rows.specs.declared.Found.TheVariants as found
 use Rattle.wellformed.specs.Check.{plain_all}
 use Rattle.wellformed.specs.declared.Part.{Part}
 use Rattle.wellformed.specs.declared.State.{State}
@@ -41,11 +39,6 @@ pub record Within (file : List ℕ) (s : State) : Type 0 where
   pub want : Lies file s.want
 
 -- ---- the fault of a row
-
--- a row was found
-abbrev pub is_found : Found → Bool
-is_found (found.Row line start end value) = true
-is_found found.Nothing = false
 
 -- a title after some rows: it must be the leading group's where they have none, which the flag tells, and else be new
 unfoldable pub title_after : Bool → List ℕ → List Row → Title → ℕ → Fault → Answer (Unit {0})

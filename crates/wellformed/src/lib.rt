@@ -14,7 +14,6 @@ ghost use Rattle.wellformed.specs.Pass as pass;
 
 use fault::Fault;
 use line::Line;
-use rows::Found;
 
 // A file below this has few enough names for the small table of marks: to clear 16 KB takes as long as to read 500 bytes.
 const FILE_SHORT: usize = 4096;
@@ -67,22 +66,7 @@ fn same_bytes(file: &[u8], x: Part, y: Part) -> bool
     requires { pass.Lies file.now x × pass.Lies file.now y }
     ensures { result ≡ same (pass.bytes file.now x) (pass.bytes file.now y) }
 {
-    rows::same(bytes(file, x), bytes(file, y))
-}
-
-// Whether a search found a row.
-fn found(f: Found) -> bool
-    ensures { result ≡ pass.is_found f }
-{
-    match f {
-        Found::Row {
-            line: _,
-            start: _,
-            end: _,
-            value: _,
-        } => true,
-        Found::Nothing => false,
-    }
+    bytes(file, x) == bytes(file, y)
 }
 
 // A refusal unless the test passed.
@@ -112,10 +96,10 @@ fn header(
 {
     let there = marks::mark(marks, 0, name);
     if first {
-        return refuse_unless(rows::same(name, leading), Fault::FirstGroup { line: n });
+        return refuse_unless(name == leading, Fault::FirstGroup { line: n });
     }
     if there {
-        let again = found(rows::find_group(&file[..p], b"", name));
+        let again = rows::find_group(&file[..p], b"", name).is_some();
         return refuse_unless(!again, Fault::RepeatedGroup { line: n });
     }
     Checked::Sound
@@ -143,7 +127,7 @@ fn entry(
     }
     if there {
         let own = bytes(file, group);
-        let again = found(rows::find_key(&file[..p], own, name));
+        let again = rows::find_key(&file[..p], own, name).is_some();
         return refuse_unless(!again, Fault::RepeatedKey { line: n });
     }
     Checked::Sound
@@ -344,7 +328,7 @@ fn ask_row(file: &[u8], row: Part, r: Line, n: usize, s: State) -> Checked
                 return Checked::Sound;
             }
             let own = bytes(file, group);
-            let there = found(rows::find_key(file, own, bytes(file, x)));
+            let there = rows::find_key(file, own, bytes(file, x)).is_some();
             refuse_unless(there, Fault::NoPlainKey { line: n })
         }
     }

@@ -14,9 +14,9 @@ find_place-requires c =
 pub returns-then-has_plain : goal.returns-then-has_plain
 returns-then-has_plain c =
     let s = c.args in
-    set_value s.file.now s.group.now s.key.now (sym c.in-Row.is ∙ c.find_key.ensures) (sym c.if-has_plain.true ∙ c.has_plain.ensures)
+    set_value s.file.now s.group.now s.key.now (sym c.in-Some.is ∙ c.find_key.ensures) (sym c.if-has_plain.true ∙ c.has_plain.ensures)
 
 pub returns : goal.returns
 returns c =
     let s = c.args in
-    value-no-plain s.file.now s.group.now s.key.now (sym c.in-Row.is ∙ c.find_key.ensures) (sym c.if-has_plain.false ∙ c.has_plain.ensures)
+    value-no-plain s.file.now s.group.now s.key.now (sym c.in-Some.is ∙ c.find_key.ensures) (sym c.if-has_plain.false ∙ c.has_plain.ensures)

@@ -1,7 +1,9 @@
 -- `group_end` meets its contract: the last row of the group before `p` is known. Assumes nothing.
 use borrow.Author.Rules.{rules}
 use native.Mathlib.Omega.{arith}
+use mathlib.Core.Path.{◌∙◌}
 use Rattle.rows.proofs.Step.{end-le}
+use Rattle.rows.proofs.Seek.{same_none}
 use Rattle.change.proofs.Passing.{ending-start, ending-end, ending-row, ending-other}
 use Rattle.change.proofs.group_end.Goals as goal
 
@@ -32,4 +34,4 @@ pub returns : goal.returns
 returns c = ending-end c.loop-p.invariant c.loop-p-test.false
 
 pub loop-p-init : goal.loop-p-init
-loop-p-init c = ending-start _ _ c.same-inside.ensures
+loop-p-init c = ending-start _ _ (c.is_empty-inside.ensures ∙ same_none _)

@@ -1,18 +1,13 @@
 -- `has_plain` meets its contract: the key is its own plain key, or that one is looked for. Assumes nothing.
-use mathlib.Core.Path.{sym, ◌∙◌}
+use mathlib.Core.Path.{sym}
 use lib.Seq.{length-take-le}
-use Rattle.change.proofs.Aiming.{plain-le, plain-itself, plain-there, plain-missing}
+use Rattle.change.proofs.Aiming.{plain-le, plain-itself, plain-found}
 use Rattle.change.proofs.has_plain.Goals as goal
 
-pub returns-in-Row : goal.returns-in-Row
-returns-in-Row c =
+pub returns : goal.returns
+returns c =
     let s = c.args in
-    plain-there s.key.now c.span_end-n.ensures s.file.now s.group.now c.if-n-key.false (sym c.in-Row.is ∙ c.find_key.ensures)
-
-pub returns-in-Nothing : goal.returns-in-Nothing
-returns-in-Nothing c =
-    let s = c.args in
-    plain-missing s.key.now c.span_end-n.ensures s.file.now s.group.now c.if-n-key.false (sym c.in-Nothing.is ∙ c.find_key.ensures)
+    plain-found s.key.now c.span_end-n.ensures s.file.now s.group.now c.if-n-key.false c.is_some.ensures c.find_key.ensures
 
 pub returns-then-n-key : goal.returns-then-n-key
 returns-then-n-key c = rw (plain-itself _ c.span_end-n.ensures c.if-n-key.true)

@@ -1,7 +1,9 @@
 -- `has_postfixed` meets its contract: no row before `p` is such a key. Assumes nothing.
 use borrow.Author.Rules.{rules}
 use native.Mathlib.Omega.{arith}
+use mathlib.Core.Path.{◌∙◌}
 use Rattle.rows.proofs.Step.{end-le}
+use Rattle.rows.proofs.Seek.{same_none}
 use Rattle.change.proofs.Passing.{lone-start, lone-end, lone-not, lone-next}
 use Rattle.change.proofs.has_postfixed.Goals as goal
 
@@ -24,4 +26,4 @@ pub returns : goal.returns
 returns c = lone-end c.loop-p.invariant c.loop-p-test.false
 
 pub loop-p-init : goal.loop-p-init
-loop-p-init c = lone-start _ _ _ c.same-inside.ensures
+loop-p-init c = lone-start _ _ _ (c.is_empty-inside.ensures ∙ same_none _)

@@ -1,19 +1,33 @@
 -- `is_plain_lang` meets its contract: the names are compared in the order of the definition. Assumes nothing.
-use mathlib.Core.Path.{sym, ◌∙◌}
-use Rattle.base.specs.Lists.{any}
-use mathlib.Core.Bool.{or-false}
+use mathlib.Core.Path.{◌≡◌, refl, ◌∙◌}
+use mathlib.Core.Bool.{◌||◌, or_assoc, or-false}
+use mathlib.Core.List.{List, []}
+use Prim.Native.Nat.{ℕ}
+use Rattle.base.specs.Lists.{ascii, same, any}
+use Rattle.base.proofs.Tests.{same-by, or-first, or-second}
+use Rattle.rows.proofs.Seek.{same_none}
+use Rattle.choice.specs.Locale.{plain_locales}
 use Rattle.choice.proofs.is_plain_lang.Goals as goal
+use Rattle.choice.proofs.is_plain_lang.Goals.{Joined-is_empty, then-is_empty, else-is_empty}
 
-pub returns-then-same : goal.returns-then-same
-unfolding any
-returns-then-same c = rw (sym c.same.ensures ∙ c.if-same.true)
+-- the first two
+two : (c : Joined-is_empty) → c.if-is_empty.value ≡ (same c.args.s.now [] || same c.args.s.now (ascii "C"))
+two c =
+    let e = c.is_empty.ensures ∙ same_none c.args.s.now in
+    elim c.if-is_empty.branch [
+      | then-is_empty w ↦ or-first _ _ w.value-is w.if-is_empty.true e
+      | else-is_empty w ↦ or-second _ _ w.value-is w.if-is_empty.false e (same-by _ w.eq.ensures w.as_slice.ensures)
+    ]
 
-pub returns-then-same-2 : goal.returns-then-same-2
+-- all three
+three : (s : List ℕ) → any (same s) plain_locales ≡ ((same s [] || same s (ascii "C")) || same s (ascii "POSIX"))
 unfolding any
-returns-then-same-2 c =
-    rw (sym c.same.ensures ∙ c.if-same.false, sym c.same-2.ensures ∙ c.if-same-2.true)
+three s = simp (or_assoc, or-false)
 
-pub returns : goal.returns
-unfolding any
-returns c =
-    rw (sym c.same.ensures ∙ c.if-same.false, sym c.same-2.ensures ∙ c.if-same-2.false, or-false) c.same-3.ensures
+pub returns-then-eq : goal.returns-then-eq
+returns-then-eq c = let p = goal.at.returns-then-eq c in rw three (or-first _ _ refl c.if-eq.true (two p.Joined-is_empty))
+
+pub returns-else-eq : goal.returns-else-eq
+returns-else-eq c =
+    let p = goal.at.returns-else-eq c in
+    rw three (or-second _ _ refl c.if-eq.false (two p.Joined-is_empty) (same-by _ c.eq-else-eq.ensures c.as_slice-else-eq.ensures))

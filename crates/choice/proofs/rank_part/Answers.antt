@@ -1,17 +1,17 @@
 -- `rank_part` meets its contract: the parts are compared, then the length of the one that is there. Assumes nothing.
 use mathlib.Core.Path.{sym, ◌∙◌}
-use borrow.Author.Tests.{eq-eqb, ne_eqb}
+use Rattle.base.proofs.Tests.{pointwise_same}
 use Rattle.choice.specs.Step.{rank_part}
 use Rattle.choice.proofs.rank_part.Goals as goal
 
-pub returns-then-same : goal.returns-then-same
+pub returns-then-eq : goal.returns-then-eq
 unfolding rank_part
-returns-then-same c = rw (sym c.same.ensures ∙ c.if-same.true)
+returns-then-eq c = rw (← pointwise_same, sym c.eq.ensures ∙ c.if-eq.true)
 
-pub returns-then-has-eq0 : goal.returns-then-has-eq0
+pub returns-then-is_empty : goal.returns-then-is_empty
 unfolding rank_part
-returns-then-has-eq0 c = rw (sym c.same.ensures ∙ c.if-same.false, eq-eqb _ _ c.if-has-eq0.true)
+returns-then-is_empty c = rw (← pointwise_same, sym c.eq.ensures ∙ c.if-eq.false, sym c.is_empty.ensures ∙ c.if-is_empty.true)
 
 pub returns : goal.returns
 unfolding rank_part
-returns c = rw (sym c.same.ensures ∙ c.if-same.false, ne_eqb _ _ c.if-has-eq0.false)
+returns c = rw (← pointwise_same, sym c.eq.ensures ∙ c.if-eq.false, sym c.is_empty.ensures ∙ c.if-is_empty.false)

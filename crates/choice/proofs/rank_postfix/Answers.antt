@@ -8,6 +8,7 @@ use lib.Seq.{length-take-le}
 use lib.Dec.{ltb}
 use borrow.Author.Tests.{lt-ltb, le-ltb}
 use Rattle.base.specs.Choice.{pick}
+use Rattle.base.proofs.Tests.{pointwise_same}
 use Rattle.line.specs.Locale.{locale_end}
 use Rattle.choice.specs.Locale.{stripped}
 use Rattle.choice.specs.Step.{all_keys, rank_in}
@@ -20,11 +21,11 @@ within : (c : After-read_parts-q) → (locale_end c.args.p ≤ length c.args.loc
 within c =
     (parts-inside c.args.locale.now c.requires.2, closed-inside c.args.s.now c.read_parts-q.ensures c.requires.0)
 
-pub slice_bounds-same-end : goal.slice_bounds-same-end
-slice_bounds-same-end c = sym (length-take-le _ c.args.locale.now (omega (arith, within (goal.at.slice_bounds-same-end c).After-read_parts-q)))
+pub slice_bounds-eq-end : goal.slice_bounds-eq-end
+slice_bounds-eq-end c = sym (length-take-le _ c.args.locale.now (omega (arith, within (goal.at.slice_bounds-eq-end c).After-read_parts-q)))
 
-pub slice_bounds-same-end-2 : goal.slice_bounds-same-end-2
-slice_bounds-same-end-2 c = sym (length-take-le _ c.args.s.now (omega (arith, within (goal.at.slice_bounds-same-end-2 c).After-read_parts-q)))
+pub slice_bounds-eq-end-2 : goal.slice_bounds-eq-end-2
+slice_bounds-eq-end-2 c = sym (length-take-le _ c.args.s.now (omega (arith, within (goal.at.slice_bounds-eq-end-2 c).After-read_parts-q)))
 
 -- the rank, where the languages are the same
 by_parts : (c : After-rank_part-m)
@@ -32,11 +33,11 @@ by_parts : (c : After-rank_part-m)
     ≡ (let r : ℕ = 2 * c.rank_part-c.result + c.rank_part-m.result in pick (ltb r 4) r 5)
 by_parts c =
     rank-by c.args.s.now c.args.locale.now c.requires.2 c.read_parts-q.ensures c.requires.0 c.requires.1
-    ∙ rw (sym c.same.ensures ∙ c.if-same.true, ← c.rank_part-c.ensures, ← c.rank_part-m.ensures)
+    ∙ rw (← pointwise_same, sym c.eq.ensures ∙ c.if-eq.true, ← c.rank_part-c.ensures, ← c.rank_part-m.ensures)
 
 pub returns : goal.returns
 returns c =
-    sym (rank-by c.args.s.now c.args.locale.now c.requires.2 c.read_parts-q.ensures c.requires.0 c.requires.1 ∙ rw (sym c.same.ensures ∙ c.if-same.false))
+    sym (rank-by c.args.s.now c.args.locale.now c.requires.2 c.read_parts-q.ensures c.requires.0 c.requires.1 ∙ rw (← pointwise_same, sym c.eq.ensures ∙ c.if-eq.false))
 
 small : (c : After-rank_part-m) → (c.rank_part-c.result ≤ 4) × (c.rank_part-m.result ≤ 4)
 small c = (rank-small _ _ c.rank_part-c.ensures, rank-small _ _ c.rank_part-m.ensures)
@@ -56,14 +57,14 @@ slice_bounds-rank_part-start c = omega (arith, within (goal.at.slice_bounds-rank
 pub slice_bounds-rank_part-end : goal.slice_bounds-rank_part-end
 slice_bounds-rank_part-end c = omega (arith, within (goal.at.slice_bounds-rank_part-end c).After-read_parts-q)
 
-pub slice_bounds-rank_part-count-then-same : goal.slice_bounds-rank_part-count-then-same
-slice_bounds-rank_part-count-then-same c = omega (arith, within (goal.at.slice_bounds-rank_part-count-then-same c).After-read_parts-q)
+pub slice_bounds-rank_part-count-then-eq : goal.slice_bounds-rank_part-count-then-eq
+slice_bounds-rank_part-count-then-eq c = omega (arith, within (goal.at.slice_bounds-rank_part-count-then-eq c).After-read_parts-q)
 
-pub slice_bounds-rank_part-start-then-same : goal.slice_bounds-rank_part-start-then-same
-slice_bounds-rank_part-start-then-same c = omega (arith, within (goal.at.slice_bounds-rank_part-start-then-same c).After-read_parts-q)
+pub slice_bounds-rank_part-start-then-eq : goal.slice_bounds-rank_part-start-then-eq
+slice_bounds-rank_part-start-then-eq c = omega (arith, within (goal.at.slice_bounds-rank_part-start-then-eq c).After-read_parts-q)
 
-pub slice_bounds-rank_part-end-then-same : goal.slice_bounds-rank_part-end-then-same
-slice_bounds-rank_part-end-then-same c = omega (arith, within (goal.at.slice_bounds-rank_part-end-then-same c).After-read_parts-q)
+pub slice_bounds-rank_part-end-then-eq : goal.slice_bounds-rank_part-end-then-eq
+slice_bounds-rank_part-end-then-eq c = omega (arith, within (goal.at.slice_bounds-rank_part-end-then-eq c).After-read_parts-q)
 
 pub overflow_add-d : goal.overflow_add-d
 overflow_add-d c = omega (arith, within (goal.at.overflow_add-d c).After-read_parts-q)
@@ -74,23 +75,23 @@ overflow_add-e c = omega (arith, within (goal.at.overflow_add-e c).After-read_pa
 pub overflow_sub-z : goal.overflow_sub-z
 overflow_sub-z c = omega (arith, within (goal.at.overflow_sub-z c).After-read_parts-q)
 
-pub slice_bounds-rank_part-count-then-same-2 : goal.slice_bounds-rank_part-count-then-same-2
-slice_bounds-rank_part-count-then-same-2 c = omega (arith, within (goal.at.slice_bounds-rank_part-count-then-same-2 c).After-read_parts-q)
+pub slice_bounds-rank_part-count-then-eq-2 : goal.slice_bounds-rank_part-count-then-eq-2
+slice_bounds-rank_part-count-then-eq-2 c = omega (arith, within (goal.at.slice_bounds-rank_part-count-then-eq-2 c).After-read_parts-q)
 
-pub slice_bounds-rank_part-start-then-same-2 : goal.slice_bounds-rank_part-start-then-same-2
-slice_bounds-rank_part-start-then-same-2 c = omega (arith, within (goal.at.slice_bounds-rank_part-start-then-same-2 c).After-read_parts-q)
+pub slice_bounds-rank_part-start-then-eq-2 : goal.slice_bounds-rank_part-start-then-eq-2
+slice_bounds-rank_part-start-then-eq-2 c = omega (arith, within (goal.at.slice_bounds-rank_part-start-then-eq-2 c).After-read_parts-q)
 
-pub slice_bounds-rank_part-end-then-same-2 : goal.slice_bounds-rank_part-end-then-same-2
-slice_bounds-rank_part-end-then-same-2 c = omega (arith, within (goal.at.slice_bounds-rank_part-end-then-same-2 c).After-read_parts-q)
+pub slice_bounds-rank_part-end-then-eq-2 : goal.slice_bounds-rank_part-end-then-eq-2
+slice_bounds-rank_part-end-then-eq-2 c = omega (arith, within (goal.at.slice_bounds-rank_part-end-then-eq-2 c).After-read_parts-q)
 
-pub slice_bounds-rank_part-count-then-same-3 : goal.slice_bounds-rank_part-count-then-same-3
-slice_bounds-rank_part-count-then-same-3 c = omega (arith, within (goal.at.slice_bounds-rank_part-count-then-same-3 c).After-read_parts-q)
+pub slice_bounds-rank_part-count-then-eq-3 : goal.slice_bounds-rank_part-count-then-eq-3
+slice_bounds-rank_part-count-then-eq-3 c = omega (arith, within (goal.at.slice_bounds-rank_part-count-then-eq-3 c).After-read_parts-q)
 
-pub slice_bounds-rank_part-start-then-same-3 : goal.slice_bounds-rank_part-start-then-same-3
-slice_bounds-rank_part-start-then-same-3 c = omega (arith, within (goal.at.slice_bounds-rank_part-start-then-same-3 c).After-read_parts-q)
+pub slice_bounds-rank_part-start-then-eq-3 : goal.slice_bounds-rank_part-start-then-eq-3
+slice_bounds-rank_part-start-then-eq-3 c = omega (arith, within (goal.at.slice_bounds-rank_part-start-then-eq-3 c).After-read_parts-q)
 
-pub slice_bounds-rank_part-end-then-same-3 : goal.slice_bounds-rank_part-end-then-same-3
-slice_bounds-rank_part-end-then-same-3 c = omega (arith, within (goal.at.slice_bounds-rank_part-end-then-same-3 c).After-read_parts-q)
+pub slice_bounds-rank_part-end-then-eq-3 : goal.slice_bounds-rank_part-end-then-eq-3
+slice_bounds-rank_part-end-then-eq-3 c = omega (arith, within (goal.at.slice_bounds-rank_part-end-then-eq-3 c).After-read_parts-q)
 
 pub overflow_mul-r : goal.overflow_mul-r
 overflow_mul-r c = omega (arith, small (goal.at.overflow_mul-r c).After-rank_part-m)
@@ -101,5 +102,5 @@ overflow_add-r c = omega (arith, small (goal.at.overflow_add-r c).After-rank_par
 pub returns-then-r-lt4 : goal.returns-then-r-lt4
 returns-then-r-lt4 c = sym (by_parts (goal.at.returns-then-r-lt4 c).After-rank_part-m ∙ rw (lt-ltb _ _ c.if-r-lt4.true))
 
-pub returns-then-same : goal.returns-then-same
-returns-then-same c = sym (by_parts (goal.at.returns-then-same c).After-rank_part-m ∙ rw (le-ltb _ _ c.if-r-lt4.false))
+pub returns-then-eq : goal.returns-then-eq
+returns-then-eq c = sym (by_parts (goal.at.returns-then-eq c).After-rank_part-m ∙ rw (le-ltb _ _ c.if-r-lt4.false))

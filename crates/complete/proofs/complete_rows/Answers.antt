@@ -3,11 +3,11 @@ use Rattle.complete.proofs.Keys.{KeyRow, key_row, key-none, complete-type}
 use Rattle.complete.specs.Complete.{complete_rows}
 use Rattle.base.specs.Lists.{ascii}
 use Rattle.complete.proofs.complete_rows.Goals as goal
-use Rattle.complete.proofs.complete_rows.Goals.{In-Row}
+use Rattle.complete.proofs.complete_rows.Goals.{In-Some}
 
 -- the row of Type
-row : (c : In-Row) → KeyRow c.args.file.now (ascii "Type") c.in-Row.line c.in-Row.end c.in-Row.value
-row c = key_row c.args.file.now (ascii "Type") c.find_key.ensures c.in-Row.is
+row : (c : In-Some) → KeyRow c.args.file.now (ascii "Type") c.in-Some.row
+row c = key_row c.args.file.now (ascii "Type") c.find_key.ensures c.in-Some.is
 
 pub returns-in_default : goal.returns-in_default
 unfolding complete_rows
@@ -16,25 +16,25 @@ returns-in_default c =
 
 pub returns-then-has_keys : goal.returns-then-has_keys
 returns-then-has_keys c =
-    let k = row (goal.at.returns-then-has_keys c).In-Row in
+    let k = row (goal.at.returns-then-has_keys c).In-Some in
     rw (complete-type _ k.found, ← k.value-is, ← c.is_type.ensures, c.if-is_type.true, ← c.has_keys.ensures, c.if-has_keys.true)
     c.check_booleans.ensures
 
 pub returns-then-is_type : goal.returns-then-is_type
 returns-then-is_type c =
-    let k = row (goal.at.returns-then-is_type c).In-Row in
+    let k = row (goal.at.returns-then-is_type c).In-Some in
     rw (complete-type _ k.found, ← k.value-is, ← c.is_type.ensures, c.if-is_type.true, ← c.has_keys.ensures, c.if-has_keys.false)
 
 pub returns : goal.returns
 returns c =
-    let k = row (goal.at.returns c).In-Row in
+    let k = row (goal.at.returns c).In-Some in
     rw (complete-type _ k.found, ← k.value-is, ← c.is_type.ensures, c.if-is_type.false, ← k.line-is)
 
 pub slice_bounds-is_type-count : goal.slice_bounds-is_type-count
-slice_bounds-is_type-count c = (row (goal.at.slice_bounds-is_type-count c).In-Row).value-le
+slice_bounds-is_type-count c = (row (goal.at.slice_bounds-is_type-count c).In-Some).value-le
 
 pub slice_bounds-is_type-start : goal.slice_bounds-is_type-start
-slice_bounds-is_type-start c = (row (goal.at.slice_bounds-is_type-start c).In-Row).value-le
+slice_bounds-is_type-start c = (row (goal.at.slice_bounds-is_type-start c).In-Some).value-le
 
 pub slice_bounds-is_type-end : goal.slice_bounds-is_type-end
-slice_bounds-is_type-end c = (row (goal.at.slice_bounds-is_type-end c).In-Row).end-le
+slice_bounds-is_type-end c = (row (goal.at.slice_bounds-is_type-end c).In-Some).end-le

@@ -19,73 +19,73 @@ returns-in_default c =
 pub slice_bounds-read_whole-count : goal.slice_bounds-read_whole-count
 slice_bounds-read_whole-count c =
     let a = c.args in
-    let w = key-value a.file.now (Key a.group.now (ascii "Exec")) (sym c.find_key.ensures ∙ c.in-Row.is) in
+    let w = key-value a.file.now (Key a.group.now (ascii "Exec")) (sym c.find_key.ensures ∙ c.in-Some.is) in
     w.ordered
 
 pub slice_bounds-read_whole-end : goal.slice_bounds-read_whole-end
 slice_bounds-read_whole-end c =
     let a = c.args in
-    let w = key-value a.file.now (Key a.group.now (ascii "Exec")) (sym c.find_key.ensures ∙ c.in-Row.is) in
+    let w = key-value a.file.now (Key a.group.now (ascii "Exec")) (sym c.find_key.ensures ∙ c.in-Some.is) in
     w.inside
 
 pub read_whole-requires : goal.read_whole-requires
 read_whole-requires c =
     let a = c.args in
-    let w = key-value a.file.now (Key a.group.now (ascii "Exec")) (sym c.find_key.ensures ∙ c.in-Row.is) in
+    let w = key-value a.file.now (Key a.group.now (ascii "Exec")) (sym c.find_key.ensures ∙ c.in-Some.is) in
     omega (arith, value-short w)
 
 pub returns-in_err-exec_end : goal.returns-in_err-exec_end
 returns-in_err-exec_end c =
     let a = c.args in
-    let w = key-value a.file.now (Key a.group.now (ascii "Exec")) (sym c.find_key.ensures ∙ c.in-Row.is) in
+    let w = key-value a.file.now (Key a.group.now (ascii "Exec")) (sym c.find_key.ensures ∙ c.in-Some.is) in
     let p = err_from_is_err_and c.from_residual.result c.from_residual.ensures.1 in
     rw (p.1, p.2) (refused-leaves a.out.now (group-unread a.file.now a.group.now a.locale.now a.location.now (items_in a.list.now) a.run w (rw c.in_err-exec_end.was at c.read_whole.ensures)))
 
 pub slice_bounds-exec-end : goal.slice_bounds-exec-end
 slice_bounds-exec-end c =
     let a = c.args in
-    let w = key-value a.file.now (Key a.group.now (ascii "Exec")) (sym c.find_key.ensures ∙ c.in-Row.is) in
+    let w = key-value a.file.now (Key a.group.now (ascii "Exec")) (sym c.find_key.ensures ∙ c.in-Some.is) in
     (text-given w (rw c.in_ok-exec_end.was at c.read_whole.ensures)).1
 
 pub slice_bounds-check_command-end : goal.slice_bounds-check_command-end
-slice_bounds-check_command-end c = sym (length-take-le _ _ ((let w = key-value c.args.file.now (Key c.args.group.now (ascii "Exec")) (sym c.find_key.ensures ∙ c.in-Row.is) in (text-given w (rw c.in_ok-exec_end.was at c.read_whole.ensures)).1)))
+slice_bounds-check_command-end c = sym (length-take-le _ _ ((let w = key-value c.args.file.now (Key c.args.group.now (ascii "Exec")) (sym c.find_key.ensures ∙ c.in-Some.is) in (text-given w (rw c.in_ok-exec_end.was at c.read_whole.ensures)).1)))
 
 pub check_command-requires : goal.check_command-requires
 check_command-requires c =
     let a = c.args in
-    let w = key-value a.file.now (Key a.group.now (ascii "Exec")) (sym c.find_key.ensures ∙ c.in-Row.is) in
+    let w = key-value a.file.now (Key a.group.now (ascii "Exec")) (sym c.find_key.ensures ∙ c.in-Some.is) in
     omega (arith, group-short a.file.now a.group.now a.locale.now a.location.now (items_in a.list.now) a.run w (text-given w (rw c.in_ok-exec_end.was at c.read_whole.ensures)).0)
 
 pub slice_bounds-exec-end-in-Sound : goal.slice_bounds-exec-end-in-Sound
 slice_bounds-exec-end-in-Sound c =
     let a = c.args in
-    let w = key-value a.file.now (Key a.group.now (ascii "Exec")) (sym c.find_key.ensures ∙ c.in-Row.is) in
+    let w = key-value a.file.now (Key a.group.now (ascii "Exec")) (sym c.find_key.ensures ∙ c.in-Some.is) in
     (text-given w (rw c.in_ok-exec_end.was at c.read_whole.ensures)).1
 
 pub slice_bounds-run_command-end : goal.slice_bounds-run_command-end
-slice_bounds-run_command-end c = sym (length-take-le _ _ ((let w = key-value c.args.file.now (Key c.args.group.now (ascii "Exec")) (sym c.find_key.ensures ∙ c.in-Row.is) in (text-given w (rw c.in_ok-exec_end.was at c.read_whole.ensures)).1)))
+slice_bounds-run_command-end c = sym (length-take-le _ _ ((let w = key-value c.args.file.now (Key c.args.group.now (ascii "Exec")) (sym c.find_key.ensures ∙ c.in-Some.is) in (text-given w (rw c.in_ok-exec_end.was at c.read_whole.ensures)).1)))
 
 pub run_command-requires : goal.run_command-requires
 run_command-requires c =
     let a = c.args in
-    let w = key-value a.file.now (Key a.group.now (ascii "Exec")) (sym c.find_key.ensures ∙ c.in-Row.is) in
+    let w = key-value a.file.now (Key a.group.now (ascii "Exec")) (sym c.find_key.ensures ∙ c.in-Some.is) in
     let t = text-given w (rw c.in_ok-exec_end.was at c.read_whole.ensures) in
     (omega (arith, c.requires.1, group-short a.file.now a.group.now a.locale.now a.location.now (items_in a.list.now) a.run w t.0), (group-right a.file.now a.group.now a.locale.now a.location.now (items_in a.list.now) a.run w t.0 (sym (ap checked_as c.in-Sound.is) ∙ c.check_command.ensures)).1, c.requires.0, c.requires.1, c.requires.2, c.requires.3, c.requires.4)
 
 pub returns-in-Refused : goal.returns-in-Refused
 returns-in-Refused c =
     let a = c.args in
-    let w = key-value a.file.now (Key a.group.now (ascii "Exec")) (sym c.find_key.ensures ∙ c.in-Row.is) in
+    let w = key-value a.file.now (Key a.group.now (ascii "Exec")) (sym c.find_key.ensures ∙ c.in-Some.is) in
     refused-leaves a.out.now (group-wrong a.file.now a.group.now a.locale.now a.location.now (items_in a.list.now) a.run w (text-given w (rw c.in_ok-exec_end.was at c.read_whole.ensures)).0 (sym (ap checked_as c.in-Refused.is) ∙ c.check_command.ensures))
 
 pub returns-in-Sound : goal.returns-in-Sound
 returns-in-Sound c =
     let a = c.args in
-    let w = key-value a.file.now (Key a.group.now (ascii "Exec")) (sym c.find_key.ensures ∙ c.in-Row.is) in
+    let w = key-value a.file.now (Key a.group.now (ascii "Exec")) (sym c.find_key.ensures ∙ c.in-Some.is) in
     rw (group-right a.file.now a.group.now a.locale.now a.location.now (items_in a.list.now) a.run w (text-given w (rw c.in_ok-exec_end.was at c.read_whole.ensures)).0 (sym (ap checked_as c.in-Sound.is) ∙ c.check_command.ensures)).0 c.run_command.ensures
 
 pub slice_bounds-read_whole-start : goal.slice_bounds-read_whole-start
 slice_bounds-read_whole-start c =
     let a = c.args in
-    let w = key-value a.file.now (Key a.group.now (ascii "Exec")) (sym c.find_key.ensures ∙ c.in-Row.is) in
+    let w = key-value a.file.now (Key a.group.now (ascii "Exec")) (sym c.find_key.ensures ∙ c.in-Some.is) in
     w.ordered

@@ -33,7 +33,7 @@ loop-p-preserved c =
     (elim c.if-inside.branch [ then-inside+else-is_named w ↦ rw (w.if-inside.true, ← w.is_named.ensures) w.if-is_named.false | else-inside w ↦ rw w.if-inside.false ])))
 
 pub loop-p-init : goal.loop-p-init
-loop-p-init c = in_start _ _ (finding (Key _ _)) c.requires
+loop-p-init c = rw c.is_empty-inside.ensures (in_start _ _ (finding (Key _ _)) c.requires)
 
 pub overflow_add-p : goal.overflow_add-p
 overflow_add-p c = omega (arith, (end-le c.args.file.now {p = c.loop-p.p} (search rules) c.line_end-e.ensures))

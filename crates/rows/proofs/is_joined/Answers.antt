@@ -1,30 +1,27 @@
 -- `rows::is_joined` meets its contract: the parts are compared one by one. Assumes nothing.
-use native.Mathlib.Omega.{arith}
-use mathlib.Core.Path.{sym, ◌∙◌}
-use mathlib.Core.Bool.{and-false, and-true}
+use mathlib.Core.Path.{◌≡◌, sym, ◌∙◌}
+use mathlib.Core.Bool.{Bool}
+use mathlib.Core.List.{List}
+use Prim.Native.Nat.{ℕ}
+use lib.Dec.{eqb}
 use lib.ListN.{length, take}
-use lib.Seq.{length-take-le}
+use lib.Pointwise.{pointwise}
 use Rattle.base.specs.Lists.{same}
-use Rattle.base.proofs.Tail.{tail-lent}
-use Rattle.rows.proofs.Lines.{too_short, joined_same}
+use Rattle.base.proofs.Tests.{pointwise_same, same-sym}
+use Rattle.rows.proofs.Lines.{joined_same}
 use Rattle.rows.proofs.is_joined.Goals as goal
 
-pub returns-then-s-n : goal.returns-then-s-n
-returns-then-s-n c =
-    let a = c.args in
-    sym (joined_same a.front.now a.rest.now a.s.now ∙ rw (too_short a.front.now a.s.now c.if-s-n.true))
+-- whether the first part stands at the front
+at-front : (f s : List ℕ) {t : Bool} → pointwise eqb (take (length f) s) f ≡ t → same f (take (length f) s) ≡ t
+at-front f s e = same-sym f (take (length f) s) ∙ sym (pointwise_same (take (length f) s) f) ∙ e
 
-pub slice_bounds-same-end-then-same : goal.slice_bounds-same-end-then-same
-slice_bounds-same-end-then-same c =
+pub returns-in_default : goal.returns-in_default
+returns-in_default c =
     let a = c.args in
-    sym (length-take-le _ a.s.now (omega arith))
-
-pub returns-then-same : goal.returns-then-same
-returns-then-same c =
-    let a = c.args in
-    c.same-then-same.ensures ∙ sym (joined_same a.front.now a.rest.now a.s.now ∙ rw (← tail-lent (length a.front.now) a.s.now, ← c.same.ensures, c.if-same.true) (and-true _))
+    sym (joined_same a.front.now a.rest.now a.s.now ∙ rw (at-front a.front.now a.s.now c.in_default.ensures.cases))
 
 pub returns : goal.returns
 returns c =
     let a = c.args in
-    sym (joined_same a.front.now a.rest.now a.s.now ∙ rw (← tail-lent (length a.front.now) a.s.now, ← c.same.ensures, c.if-same.false) (and-false (same a.front.now (take (length a.front.now) a.s.now))))
+    let h = c.in-Some.ensures.cases in
+    c.eq.ensures ∙ sym (joined_same a.front.now a.rest.now a.s.now ∙ rw (at-front a.front.now a.s.now h.0, ← h.1, pointwise_same))

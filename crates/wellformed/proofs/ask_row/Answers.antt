@@ -3,8 +3,9 @@ use mathlib.Core.Path.{sym, ◌∙◌}
 use borrow.Author.Tests.{eq-eqb, ne_eqb}
 use Rattle.rows.specs.Rows.{read_rows}
 use Rattle.rows.specs.Title.{find_row, Key}
+use Rattle.rows.proofs.Told.{found-there}
 use Rattle.wellformed.specs.Pass.{bytes}
-use Rattle.wellformed.proofs.Places.{found-is, reads-within, key-lies}
+use Rattle.wellformed.proofs.Places.{reads-within, key-lies}
 use Rattle.wellformed.proofs.Plain.{there-as}
 use Rattle.wellformed.proofs.ask_row.Goals as goal
 
@@ -17,7 +18,7 @@ returns-then-same_bytes c =
 
 pub returns-else-same_bytes : goal.returns-else-same_bytes
 returns-else-same_bytes c =
-    let t = found-is (find_row (read_rows c.args.file.now) (Key c.bytes-own.result.now c.bytes.result.now)) c.found-there.ensures c.find_key.ensures in
+    let t = found-there (find_row (read_rows c.args.file.now) (Key c.bytes-own.result.now c.bytes.result.now)) c.is_some-there.ensures c.find_key.ensures in
     rw (c.in-Entry.is, ne_eqb _ _ c.if-key-name.false, ← c.bytes-own.ensures, ← c.bytes.ensures, t) c.refuse_unless.ensures
 
 pub returns-then-key-name : goal.returns-then-key-name

@@ -2,24 +2,25 @@
 use native.Mathlib.Omega.{arith}
 use mathlib.Core.Path.{refl, sym, ◌∙◌}
 use Rattle.base.specs.Lists.{any}
+use Rattle.base.proofs.Tests.{pointwise_same}
 use Rattle.text.proofs.Elements.{element-end, split}
 use Rattle.actions.proofs.Elements.{elements-done}
 use borrow.Author.Rules.{rules}
 use Rattle.actions.proofs.listed.is_element.Goals as goal
 
-pub slice_bounds-same-count : goal.slice_bounds-same-count
-slice_bounds-same-count c =
+pub slice_bounds-eq-count : goal.slice_bounds-eq-count
+slice_bounds-eq-count c =
     (element-end c.args.raw.now c.loop-i.i (search rules) c.bare_end-e.ensures).0
 
-pub slice_bounds-same-end : goal.slice_bounds-same-end
-slice_bounds-same-end c =
+pub slice_bounds-eq-end : goal.slice_bounds-eq-end
+slice_bounds-eq-end c =
     (element-end c.args.raw.now c.loop-i.i (search rules) c.bare_end-e.ensures).1
 
-pub returns-then-same : goal.returns-then-same
+pub returns-then-eq : goal.returns-then-eq
 unfolding any
-returns-then-same c =
+returns-then-eq c =
     let a = c.args in
-    rw (split a.raw.now c.loop-i.i (search rules) c.bare_end-e.ensures, sym c.same.ensures ∙ c.if-same.true) at c.loop-i.invariant
+    rw (split a.raw.now c.loop-i.i (search rules) c.bare_end-e.ensures, ← pointwise_same, sym c.eq.ensures ∙ c.if-eq.true) at c.loop-i.invariant
 
 pub overflow_add-i : goal.overflow_add-i
 overflow_add-i c = omega (arith, ((element-end c.args.raw.now c.loop-i.i (search rules) c.bare_end-e.ensures).1))
@@ -31,7 +32,7 @@ pub loop-i-preserved : goal.loop-i-preserved
 unfolding any
 loop-i-preserved c =
     let a = c.args in
-    rw (split a.raw.now c.loop-i.i (search rules) c.bare_end-e.ensures, sym c.same.ensures ∙ c.if-same.false) at c.loop-i.invariant
+    rw (split a.raw.now c.loop-i.i (search rules) c.bare_end-e.ensures, ← pointwise_same, sym c.eq.ensures ∙ c.if-eq.false) at c.loop-i.invariant
 
 pub returns : goal.returns
 unfolding any
@@ -42,6 +43,6 @@ returns c =
 pub loop-i-init : goal.loop-i-init
 loop-i-init c = refl
 
-pub slice_bounds-same-start : goal.slice_bounds-same-start
-slice_bounds-same-start c =
+pub slice_bounds-eq-start : goal.slice_bounds-eq-start
+slice_bounds-eq-start c =
     (element-end c.args.raw.now c.loop-i.i (search rules) c.bare_end-e.ensures).0

@@ -17,21 +17,21 @@ returns-in_default c =
 pub slice_bounds-result-count : goal.slice_bounds-result-count
 slice_bounds-result-count c =
     let a = c.args in
-    (key-value a.file.now (Key desktop_entry (ascii "Actions")) (sym c.find_key.ensures ∙ c.in-Row.is)).ordered
+    (key-value a.file.now (Key desktop_entry (ascii "Actions")) (sym c.find_key.ensures ∙ c.in-Some.is)).ordered
 
 pub slice_bounds-result-end-2 : goal.slice_bounds-result-end-2
 slice_bounds-result-end-2 c =
     let a = c.args in
-    (key-value a.file.now (Key desktop_entry (ascii "Actions")) (sym c.find_key.ensures ∙ c.in-Row.is)).inside
+    (key-value a.file.now (Key desktop_entry (ascii "Actions")) (sym c.find_key.ensures ∙ c.in-Some.is)).inside
 
 pub returns : goal.returns
 unfolding actions_value
 returns c =
     let a = c.args in
-    let w = key-value a.file.now (Key desktop_entry (ascii "Actions")) (sym c.find_key.ensures ∙ c.in-Row.is) in
+    let w = key-value a.file.now (Key desktop_entry (ascii "Actions")) (sym c.find_key.ensures ∙ c.in-Some.is) in
     rw w.is w.bytes
 
 pub slice_bounds-result-start : goal.slice_bounds-result-start
 slice_bounds-result-start c =
     let a = c.args in
-    (key-value a.file.now (Key desktop_entry (ascii "Actions")) (sym c.find_key.ensures ∙ c.in-Row.is)).ordered
+    (key-value a.file.now (Key desktop_entry (ascii "Actions")) (sym c.find_key.ensures ∙ c.in-Some.is)).ordered
