@@ -6,7 +6,7 @@ use mathlib.Core.List.{List}
 use Rattle.fault.specs.declared.Fault.{Fault}
 use Rattle.fault.specs.Table.{number_of, place_of}
 use Rattle.fault.specs.Answer.{Answer, then, at_exit}
-use Rattle.entry.specs.Lookup.{Extent}
+use Rattle.entry.specs.declared.Ends.{Ends}
 use Rattle.journal.specs.Lent.{Lent, lent, forget, Forgets}
 use Rattle.journal.specs.declared.Forgot.{Forgot}
 use Rattle.edit.specs.Calls.{State, Made, numbers_of}
@@ -32,7 +32,7 @@ same-no-byte e z t =
     let q = r.returned in
     record { returned = record { code_is = q.code_is; place_is = q.place_is; byte_is = sym z }; number_is = r.number_is }
 
-pub same_ends : {a b : Answer Extent} {code place byte from₀ from to₀ to : ℕ} → a ≡ b → ReturnedEnds a code place byte from₀ from to₀ to → ReturnedEnds b code place byte from₀ from to₀ to
+pub same_ends : {a b : Answer Ends} {code place byte from₀ from to₀ to : ℕ} → a ≡ b → ReturnedEnds a code place byte from₀ from to₀ to → ReturnedEnds b code place byte from₀ from to₀ to
 same_ends e t = rw e at t
 
 -- ---- a call that edits

@@ -3,7 +3,7 @@
 use Rattle.std.specs.Prelude.{◌≡◌, ℕ, List, Ok, Err}
 use Rattle.fault.specs.Table.{number_of, place_of, byte_of}
 use Rattle.fault.specs.Answer.{Answer, unless, at_exit}
-use Rattle.entry.specs.Lookup.{Extent}
+use Rattle.entry.specs.declared.Ends.{Ends}
 use Rattle.journal.specs.Lent.{Lent}
 use Rattle.edit.specs.declared.Edited.{Edited}
 use Rattle.edit.specs.Calls.{State, lent}
@@ -45,7 +45,7 @@ pub record ReturnedNumber (a : Answer ℕ) (code place byte number₀ number : �
   pub number_is : number ≡ written_in (λ n. n) a number₀
 
 -- of a call that finds a value: its two ends
-pub record ReturnedEnds (a : Answer Extent) (code place byte from₀ from to₀ to : ℕ) : Type 0 where
+pub record ReturnedEnds (a : Answer Ends) (code place byte from₀ from to₀ to : ℕ) : Type 0 where
   pub returned : Returned a code place byte
   pub from_is : from ≡ written_in (λ e. e.from) a from₀
   pub to_is : to ≡ written_in (λ e. e.to) a to₀

@@ -3,8 +3,6 @@
 
 ghost use Rattle.std.specs.Prelude.{◌≡◌, ℕ, List};
 ghost use Rattle.fault.specs.Table.{number_of, place_of, byte_of};
-ghost use Rattle.wellformed.specs.Check as check;
-ghost use Rattle.entry.specs.Lookup as lookup;
 ghost use Rattle.batch.specs.Batch as batch;
 ghost use Rattle.abi.specs.Abi.{Returned, ReturnedNumber, ReturnedEnds, ReturnedNumbers, CalledBatch};
 
@@ -12,7 +10,6 @@ use batch::Batched;
 use edit::Edited;
 use entry::Ends;
 use fault::Fault;
-use wellformed::Checked;
 
 // A refusal, as it is told.
 pub fn refuse(f: Fault, place: &mut u64, byte: &mut u64) -> u32
@@ -25,32 +22,38 @@ pub fn refuse(f: Fault, place: &mut u64, byte: &mut u64) -> u32
 }
 
 // The answer of the check.
-pub fn tell_checked(c: Checked, place: &mut u64, byte: &mut u64) -> u32
-    ensures { Returned (check.answered c) result place.new byte.new }
+pub fn tell_checked(c: Result<(), Fault>, place: &mut u64, byte: &mut u64) -> u32
+    ensures { Returned c result place.new byte.new }
 {
     match c {
-        Checked::Sound => {
+        Ok(()) => {
             *place = 0;
             *byte = 0;
             0
         }
-        Checked::Refused(f) => refuse(f, place, byte),
+        Err(f) => refuse(f, place, byte),
     }
 }
 
 // The answer of a call that finds a value.
-pub fn tell_ends(e: Ends, place: &mut u64, byte: &mut u64, from: &mut u64, to: &mut u64) -> u32
-    ensures { ReturnedEnds (lookup.answered e) result place.new byte.new from.old from.new to.old to.new }
+pub fn tell_ends(
+    e: Result<Ends, Fault>,
+    place: &mut u64,
+    byte: &mut u64,
+    from: &mut u64,
+    to: &mut u64,
+) -> u32
+    ensures { ReturnedEnds e result place.new byte.new from.old from.new to.old to.new }
 {
     match e {
-        Ends::At { from: a, to: b } => {
+        Ok(ends) => {
             *place = 0;
             *byte = 0;
-            *from = a as u64;
-            *to = b as u64;
+            *from = ends.from as u64;
+            *to = ends.to as u64;
             0
         }
-        Ends::Refused(f) => refuse(f, place, byte),
+        Err(f) => refuse(f, place, byte),
     }
 }
 

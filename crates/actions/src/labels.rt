@@ -24,7 +24,7 @@ fn label<'a, 'b, 'c>(file: &'a [u8], group: &'b [u8], locale: &'c [u8]) -> &'a [
     requires { (none_bad file.now ≡ true) × (locale_form locale.now ≡ true) }
     ensures { result.now ≡ maybe (chosen (read_rows file.now) group.now (ascii "Name") locale.now) [] raw_value }
 {
-    let Ends::At { from, to } = entry::chosen_ends(file, group, b"Name", locale) else {
+    let Ok(Ends { from, to }) = entry::chosen_ends(file, group, b"Name", locale) else {
         return &file[..0];
     };
     &file[from..to]

@@ -8,9 +8,7 @@ ghost use Rattle.std.specs.Prelude.{◌≡◌};
 ghost use Rattle.text.specs.Output.{written_length, held};
 ghost use Rattle.actions.specs.Actions as spec;
 
-use exec::Counted;
 use fault::Fault;
-use wellformed::Checked;
 
 // The identifiers and labels of the listed actions as records of kind 2: 1 to 6, 7, Actions' 9, the labels' 9 in list order, 11.
 pub fn actions(file: &[u8], locale: &[u8], out: &mut [u8]) -> Result<usize, Fault>
@@ -18,8 +16,8 @@ pub fn actions(file: &[u8], locale: &[u8], out: &mut [u8]) -> Result<usize, Faul
     ensures output { out.new ≡ held (spec.actions file.now locale.now) out.old }
 {
     match wellformed::check(file) {
-        Checked::Refused(f) => Err(f),
-        Checked::Sound => {
+        Err(f) => Err(f),
+        Ok(()) => {
             if line::form::is_locale(locale) {
                 let raw = listed::value(file);
                 // No room is asked for: this tells whether the list's escapes are right.
@@ -46,8 +44,8 @@ pub fn expand_action(
     ensures output { out.new ≡ held (spec.expand_action file.now action.now locale.now location.now list.now run) out.old }
 {
     match exec::ask(file, locale, location, list) {
-        Counted::Refused(f) => Err(f),
-        Counted::Items(count) => {
+        Err(f) => Err(f),
+        Ok(count) => {
             let raw = listed::value(file);
             text::list::room_after(raw, 0)?;
             let group = listed::group_asked(file, raw, action);

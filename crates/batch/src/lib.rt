@@ -15,7 +15,6 @@ use edit::Edited;
 use fault::Fault;
 use record::{Front, HEAD};
 use requests::Request;
-use wellformed::Checked;
 
 // What a batch did: how many requests were done, the numbers that they left, and the refusal at which it stopped, if it did.
 #[derive(Clone, Copy)]
@@ -141,12 +140,12 @@ pub fn batch(
         standing,
     };
     match edit::check_lent(file, size, journal, used, standing) {
-        Checked::Refused(fault) => Batched {
+        Err(fault) => Batched {
             done: 0,
             left,
             stopped: Some(fault),
         },
-        Checked::Sound => {
+        Ok(()) => {
             if requests::sound(list) {
                 return run(file, size, journal, used, standing, person, list);
             }

@@ -1,19 +1,11 @@
 -- What the functions of this crate answer, by the definitions of completeness. Assumes nothing.
-use Rattle.std.specs.Prelude.{ℕ, Bool, false, not, ◌&&◌, List, take, drop, Ok, Err}
+use Rattle.std.specs.Prelude.{ℕ, Bool, false, not, ◌&&◌, List, take, drop}
 use Rattle.base.specs.Lists.{ascii, same, any}
-use Rattle.fault.specs.Answer.{Answer}
 use Rattle.line.specs.declared.Line.{Line}
 use Rattle.line.specs.declared.Line.TheVariants.{Blank, Comment, Header, Entry, Bad}
 use Rattle.rows.specs.Rows.{Row}
 use Rattle.rows.specs.Title.{has}
-use Rattle.complete.specs.declared.Completed.{Completed}
-use Rattle.complete.specs.declared.Completed.TheVariants.{Complete, Refused}
 use Rattle.complete.specs.Complete.{main, exec_where_due, url_where_due, boolean_keys, is_boolean}
-
--- the answer as completeness gives it
-abbrev pub completed : Completed → Answer (Unit {0})
-completed Complete = Ok tt
-completed (Refused f) = Err f
 
 -- Name is there, and Exec and URL where they are due
 unfoldable pub keys_there : List Row → Bool

@@ -14,13 +14,6 @@ ghost use Rattle.complete.specs.Step as step;
 use fault::Fault;
 use line::Line;
 
-// Complete, or the fault 18.
-#[derive(Clone, Copy)]
-pub enum Completed {
-    Complete,
-    Refused(Fault),
-}
-
 // Whether Desktop Entry has a plain key.
 fn has_key(file: &[u8], key: &[u8]) -> bool
     requires { none_bad file.now ≡ true }
@@ -118,9 +111,9 @@ fn is_desktop_entry(l: &[u8]) -> bool
 }
 
 // The first boolean key of Desktop Entry with another value, in a file without bad lines.
-fn check_booleans(file: &[u8]) -> Completed
+fn check_booleans(file: &[u8]) -> Result<(), Fault>
     requires { none_bad file.now ≡ true }
-    ensures { step.completed result ≡ spec.booleans (read_rows file.now) }
+    ensures { result ≡ spec.booleans (read_rows file.now) }
 {
     let mut p: usize = 0;
     let mut n: usize = 1;
@@ -135,7 +128,7 @@ fn check_booleans(file: &[u8]) -> Completed
         } else {
             if inside {
                 if is_wrong(l) {
-                    return Completed::Refused(Fault::Incomplete { line: n });
+                    return Err(Fault::Incomplete { line: n });
                 }
                 p = e + 1;
                 n += 1;
@@ -145,22 +138,22 @@ fn check_booleans(file: &[u8]) -> Completed
             }
         }
     }
-    Completed::Complete
+    Ok(())
 }
 
 // Whether an entry is complete, in a file without bad lines.
-pub fn complete_rows(file: &[u8]) -> Completed
+pub fn complete_rows(file: &[u8]) -> Result<(), Fault>
     requires { none_bad file.now ≡ true }
-    ensures { step.completed result ≡ spec.complete_rows (read_rows file.now) }
+    ensures { result ≡ spec.complete_rows (read_rows file.now) }
 {
     let Some(row) = rows::find_key(file, b"Desktop Entry", b"Type") else {
-        return Completed::Refused(Fault::Incomplete { line: 0 });
+        return Err(Fault::Incomplete { line: 0 });
     };
-    if is_type(&file[row.value..row.end]) {
-        if has_keys(file) {
-            return check_booleans(file);
-        }
-        return Completed::Refused(Fault::Incomplete { line: 0 });
+    if !is_type(&file[row.value..row.end]) {
+        return Err(Fault::Incomplete { line: row.line });
     }
-    Completed::Refused(Fault::Incomplete { line: row.line })
+    if !has_keys(file) {
+        return Err(Fault::Incomplete { line: 0 });
+    }
+    check_booleans(file)
 }

@@ -17,7 +17,8 @@ use Rattle.rows.proofs.Titles.{nameless}
 use Rattle.rows.proofs.Sight.{lines_of}
 use Rattle.wellformed.specs.WellFormed.{well_formed}
 use Rattle.wellformed.proofs.Accepts.{checks}
-use Rattle.entry.specs.Lookup.{Extent, value_ends, lookup}
+use Rattle.entry.specs.Lookup.{value_ends, lookup}
+use Rattle.entry.specs.declared.Ends.{Ends}
 use Rattle.entry.proofs.Lookups.{row-stands}
 use Rattle.splice.specs.Edit.{Edit}
 use Rattle.change.specs.Change.{Request, Set, Remove, edit_of}
@@ -119,7 +120,7 @@ removed-is-missing s t author group key h =
     let c = (remove-of (content s) group key d.edit d.edits).form in
     by_answer (lookup (content t) group key) (own-reads s t q group key refl c h)
   where
-    by_answer : (a : Answer Extent) → then (λ e. part e.from e.to (content t)) a ≡ Err Missing → a ≡ Err Missing
+    by_answer : (a : Answer Ends) → then (λ e. part e.from e.to (content t)) a ≡ Err Missing → a ≡ Err Missing
     by_answer (Ok e) i = no (cc)
     by_answer (Err f) i = ap Err (cc)
 

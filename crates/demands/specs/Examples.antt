@@ -7,7 +7,8 @@ use Rattle.fault.specs.Answer.{Answer}
 use Rattle.text.specs.Escape.{read_text, write_text}
 use Rattle.text.specs.Element.{read_elements}
 use Rattle.wellformed.specs.Check.{check}
-use Rattle.entry.specs.Lookup.{Extent, lookup, part_of}
+use Rattle.entry.specs.Lookup.{lookup, part_of}
+use Rattle.entry.specs.declared.Ends.{Ends}
 use Rattle.entry.specs.Choose.{choose}
 use Rattle.exec.specs.Expand.{expand}
 use Rattle.change.specs.Change.{Set}
@@ -47,13 +48,13 @@ checks f = shown (λ u. []) (check f)
 abbrev pub name_in : List ℕ → Shown
 name_in line =
     let f : List ℕ = file (ascii "[Desktop Entry]" ∷ line ∷ []) in
-    shown (λ (e : Extent). part_of f (Ok e) ∷ []) (lookup f (ascii "Desktop Entry") (ascii "Name"))
+    shown (λ (e : Ends). part_of f (Ok e) ∷ []) (lookup f (ascii "Desktop Entry") (ascii "Name"))
 
 -- the value that a locale takes among these entries
 abbrev pub name_for : List ℕ → List (List ℕ) → Shown
 name_for locale entries =
     let f : List ℕ = file (ascii "[Desktop Entry]" ∷ entries) in
-    shown (λ (e : Extent). part_of f (Ok e) ∷ []) (choose f (ascii "Desktop Entry") (ascii "Name") locale)
+    shown (λ (e : Ends). part_of f (Ok e) ∷ []) (choose f (ascii "Desktop Entry") (ascii "Name") locale)
 
 -- the elements of a raw value, as records
 abbrev pub elements : List ℕ → Shown

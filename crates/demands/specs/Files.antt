@@ -12,7 +12,8 @@ use Rattle.rows.specs.Title.{Title, Nameless, Group, Key, title, same_title, fin
 use Rattle.wellformed.specs.Check.{check}
 use Rattle.wellformed.specs.WellFormed.{well_formed}
 use Rattle.choice.specs.Locale.{stripped_title, keys_of}
-use Rattle.entry.specs.Lookup.{Extent, value_ends, lookup}
+use Rattle.entry.specs.Lookup.{value_ends, lookup}
+use Rattle.entry.specs.declared.Ends.{Ends}
 use Rattle.entry.specs.Choose.{choose}
 
 -- what lookup hands back: a part of the file, or its refusal
@@ -56,7 +57,7 @@ first_whole rs group [] = None
 first_whole rs group (k ∷ ks) = let later : Option Row = first_whole rs group ks in maybe (find_row rs (Key group k)) later Some
 
 -- the call, as it was in 01
-unfoldable pub choose_whole : List ℕ → List ℕ → List ℕ → List ℕ → Answer Extent
+unfoldable pub choose_whole : List ℕ → List ℕ → List ℕ → List ℕ → Answer Ends
 choose_whole file group key locale = do
   _ ← check file
   _ ← need (group_form group && plain_form key && locale_form locale) BadArgument

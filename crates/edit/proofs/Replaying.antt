@@ -1,5 +1,5 @@
 -- An edit from the journal: what its result is, step by step. Assumes nothing.
-use Rattle.std.specs.Prelude.{Ok, Err}
+use Rattle.std.specs.Prelude.{Ok, Err, is_ok}
 use mathlib.Core.Path.{◌≡◌, refl, sym, ap, ◌∙◌}
 use mathlib.Core.Bool.{true, false}
 use mathlib.Core.List.{List}
@@ -24,17 +24,22 @@ use Rattle.splice.proofs.Built.{replaced-length, built}
 use Rattle.edit.specs.Calls.{file_fits, replayed_in}
 use Rattle.edit.specs.Step.{became}
 
+-- an answer that is no refusal is accepted
+ok_accepted : {A : Type 0} (a : Answer A) → is_ok a ≡ accepted a
+ok_accepted (Ok x) = refl
+ok_accepted (Err f) = refl
+
 -- the check of a file that was copied to a space and edited there
 pub built-checked : (space file new : List ℕ) (place old : ℕ) → place + old ≤ length file → {s t : List ℕ}
     → s ≡ over space 0 file
     → t ≡ buffer_with s (length file) (replaced place old new (take (length file) s))
     → {a : Answer (Unit {0})}
     → a ≡ check (take (length file - old + length new) t)
-    → accepted a ≡ well_formed (replaced place old new file)
+    → is_ok a ≡ well_formed (replaced place old new file)
 unfolding CheckAccepts
-built-checked space file new place old h {s} {t} e f g =
+built-checked space file new place old h {s} {t} e f {a} g =
     let b : take (length file - old + length new) t ≡ replaced place old new file = rw (f, e) (built space file new place old _ h refl) in
-    ap accepted (rw b at g) ∙ check-accepts desktop_entry (replaced place old new file)
+    ok_accepted a ∙ ap accepted (rw b at g) ∙ check-accepts desktop_entry (replaced place old new file)
 
 -- ---- what is decided before anything is changed
 

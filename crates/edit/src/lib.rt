@@ -13,13 +13,11 @@ ghost use Rattle.journal.specs.Journal.{Person, by, edit_record};
 ghost use Rattle.change.specs.Change as request;
 ghost use Rattle.change.specs.Target as target;
 ghost use Rattle.edit.specs.Calls as calls;
-ghost use Rattle.wellformed.specs.Check as check;
 ghost use Rattle.edit.specs.Step as step;
 
 use change::{Operation, Target};
 use fault::Fault;
 use journal::{Record, Way};
-use wellformed::Checked;
 
 // The file's length and the journal's two numbers after a call.
 #[derive(Clone, Copy)]
@@ -37,14 +35,20 @@ struct Part {
 }
 
 // Whether the numbers fit the buffers (14), and then the file's own faults (1 to 6).
-fn check_file(file: &[u8], size: usize, journal: &[u8], used: usize, standing: usize) -> Checked
-    ensures { check.answered result ≡ calls.file_checked (calls.lent file.now size journal.now used standing) }
+fn check_file(
+    file: &[u8],
+    size: usize,
+    journal: &[u8],
+    used: usize,
+    standing: usize,
+) -> Result<(), Fault>
+    ensures { result ≡ calls.file_checked (calls.lent file.now size journal.now used standing) }
 {
     if file.len() < size {
-        return Checked::Refused(Fault::Damaged);
+        return Err(Fault::Damaged);
     }
     if !journal::fits(journal, used, standing) {
-        return Checked::Refused(Fault::Damaged);
+        return Err(Fault::Damaged);
     }
     wellformed::check(&file[..size])
 }
@@ -195,18 +199,20 @@ pub fn carry_out(
 }
 
 // What every set and remove asks first: lengths (14), the file's own faults (1 to 6), the journal (14).
-pub fn check_lent(file: &[u8], size: usize, journal: &[u8], used: usize, standing: usize) -> Checked
-    ensures { check.answered result ≡ step.passed (calls.opened (calls.lent file.now size journal.now used standing)) }
+pub fn check_lent(
+    file: &[u8],
+    size: usize,
+    journal: &[u8],
+    used: usize,
+    standing: usize,
+) -> Result<(), Fault>
+    ensures { result ≡ step.passed (calls.opened (calls.lent file.now size journal.now used standing)) }
 {
-    match check_file(file, size, journal, used, standing) {
-        Checked::Refused(f) => Checked::Refused(f),
-        Checked::Sound => {
-            if journal::sound(&journal[..used], standing) {
-                return Checked::Sound;
-            }
-            Checked::Refused(Fault::Damaged)
-        }
+    check_file(file, size, journal, used, standing)?;
+    if !journal::sound(&journal[..used], standing) {
+        return Err(Fault::Damaged);
     }
+    Ok(())
 }
 
 // A person's request: what every request asks first, and then its own.
@@ -228,8 +234,8 @@ fn request(
         result file.new journal.new }
 {
     match check_lent(file, size, journal, used, standing) {
-        Checked::Refused(f) => Err(f),
-        Checked::Sound => carry_out(file, size, journal, standing, person, op, group, key, text),
+        Err(f) => Err(f),
+        Ok(()) => carry_out(file, size, journal, standing, person, op, group, key, text),
     }
 }
 
@@ -302,10 +308,7 @@ fn built_well(space: &mut [u8], file: &[u8], place: usize, old: usize, new: &[u8
     splice::write(space, 0, file);
     splice::replace(space, size, place, old, new);
     let after = size - old + new.len();
-    match wellformed::check(&space[..after]) {
-        Checked::Sound => true,
-        Checked::Refused(_) => false,
-    }
+    wellformed::check(&space[..after]).is_ok()
 }
 
 // The same, built in an array, for a result that is not too long.
@@ -399,8 +402,8 @@ fn turn(
         result file.new journal.now }
 {
     match check_file(file, size, journal, used, standing) {
-        Checked::Refused(f) => Err(f),
-        Checked::Sound => {
+        Err(f) => Err(f),
+        Ok(()) => {
             let edits = &journal[..used];
             let Record {
                 start,

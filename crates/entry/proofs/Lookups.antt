@@ -18,16 +18,17 @@ use Rattle.rows.specs.Find.{found_of}
 use Rattle.rows.proofs.Told.{found-by, line-inside, value-inside, value-stands}
 use Rattle.wellformed.specs.Check.{check}
 use Rattle.entry.specs.Choose.{chosen_ends, choose}
-use Rattle.entry.specs.Lookup.{Extent, value_ends, lookup, answered, ends_of}
+use Rattle.entry.specs.Lookup.{value_ends, lookup, ends_of}
+use Rattle.entry.specs.declared.Ends.{Ends}
 
 -- what finding tells is what the definition gives
-pub ends-answer : (o : Option Row) → answered (ends_of (found_of o)) ≡ (some_or o Missing >>= λ r. Ok (value_ends r))
+pub ends-answer : (o : Option Row) → ends_of (found_of o) ≡ (some_or o Missing >>= λ r. Ok (value_ends r))
 unfolding value_ends
 ends-answer None = refl
 ends-answer (Some r) = refl
 
 -- ends in their order, inside n bytes
-abbrev pub Inside : ℕ → Answer Extent → Type 0
+abbrev pub Inside : ℕ → Answer Ends → Type 0
 Inside n (Ok x) = (x.from ≤ x.to) × (x.to ≤ n)
 Inside n (Err f) = Unit
 

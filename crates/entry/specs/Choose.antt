@@ -6,16 +6,17 @@ use Rattle.line.specs.Form.{group_form, plain_form, locale_form}
 use Rattle.rows.specs.Rows.{Row, read_rows}
 use Rattle.wellformed.specs.Check.{check}
 use Rattle.choice.specs.Locale.{chosen}
-use Rattle.entry.specs.Lookup.{Extent, value_ends}
+use Rattle.entry.specs.Lookup.{value_ends}
+use Rattle.entry.specs.declared.Ends.{Ends}
 
 -- the two ends of the value that a locale takes in rows already checked, or 8
-abbrev pub chosen_ends : List Row → List ℕ → List ℕ → List ℕ → Answer Extent
+abbrev pub chosen_ends : List Row → List ℕ → List ℕ → List ℕ → Answer Ends
 chosen_ends rs group key locale = do
   r ← some_or (chosen rs group key locale) Missing
   Ok (value_ends r)
 
 -- choice's two ends, or its refusal
-unfoldable pub choose : List ℕ → List ℕ → List ℕ → List ℕ → Answer Extent
+unfoldable pub choose : List ℕ → List ℕ → List ℕ → List ℕ → Answer Ends
 choose file group key locale = do
   _ ← check file
   _ ← need (group_form group && plain_form key && locale_form locale) BadArgument

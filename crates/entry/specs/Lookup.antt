@@ -9,36 +9,25 @@ use Rattle.rows.specs.Title.{Key, find_row}
 use Rattle.rows.specs.declared.Row as told
 use Rattle.wellformed.specs.Check.{check}
 use Rattle.entry.specs.declared.Ends.{Ends}
-use Rattle.entry.specs.declared.Ends.TheVariants as ends
-
--- two ends in the file
-pub record Extent : Type 0 where
-  pub from : ℕ
-  pub to : ℕ
 
 -- the ends of a row's value: to the end of its line
-unfoldable pub value_ends : Row → Extent
+unfoldable pub value_ends : Row → Ends
 value_ends r = record { from = r.start + value_start r.reading; to = r.start + length (line_of r.bytes) }
 
 -- lookup's two ends, or its refusal
-unfoldable pub lookup : List ℕ → List ℕ → List ℕ → Answer Extent
+unfoldable pub lookup : List ℕ → List ℕ → List ℕ → Answer Ends
 lookup file group key = do
   _ ← check file
   _ ← need (group_form group && key_form key) BadArgument
   r ← some_or (find_row (read_rows file) (Key group key)) Missing
   Ok (value_ends r)
 
--- what the answer says
-abbrev pub answered : Ends → Answer Extent
-answered (ends.At from to) = Ok (record { from = from; to = to })
-answered (ends.Refused f) = Err f
-
 -- the part of the file between two ends; empty when refused
-abbrev pub part_of : List ℕ → Answer Extent → List ℕ
+abbrev pub part_of : List ℕ → Answer Ends → List ℕ
 part_of file (Ok e) = part e.from e.to file
 part_of file (Err f) = []
 
 -- the ends that finding a row tells
-abbrev pub ends_of : Option told.Row → Ends
-ends_of (Some r) = ends.At r.value r.end
-ends_of None = ends.Refused Missing
+abbrev pub ends_of : Option told.Row → Answer Ends
+ends_of (Some r) = Ok (record { from = r.value; to = r.end })
+ends_of None = Err Missing

@@ -8,109 +8,86 @@ ghost use Rattle.rows.specs.Find.{none_bad};
 ghost use Rattle.entry.specs.Lookup as spec;
 ghost use Rattle.entry.specs.Choose as choice;
 ghost use Rattle.entry.specs.Complete as whole;
-ghost use Rattle.wellformed.specs.Check as check;
 
-use complete::Completed;
 use fault::Fault;
 use rows::Row;
-use wellformed::Checked;
 
-// The two ends of a value in the file, the end exclusive, or the refusal.
+// The two ends of a value in the file, the end exclusive.
 #[derive(Clone, Copy)]
-pub enum Ends {
-    At { from: usize, to: usize },
-    Refused(Fault),
+pub struct Ends {
+    pub from: usize,
+    pub to: usize,
 }
 
 // The ends of a row's value.
-fn ends_of(f: Option<Row>) -> Ends
+fn ends_of(f: Option<Row>) -> Result<Ends, Fault>
     ensures { result ≡ spec.ends_of f }
 {
     match f {
-        Some(row) => Ends::At {
+        Some(row) => Ok(Ends {
             from: row.value,
             to: row.end,
-        },
-        None => Ends::Refused(Fault::Missing),
+        }),
+        None => Err(Fault::Missing),
     }
 }
 
 // The raw value of a key with its postfix, by its two ends: 1 to 6, 7, 8.
-pub fn lookup_ends(file: &[u8], group: &[u8], key: &[u8]) -> Ends
-    ensures { spec.answered result ≡ spec.lookup file.now group.now key.now }
+pub fn lookup_ends(file: &[u8], group: &[u8], key: &[u8]) -> Result<Ends, Fault>
+    ensures { result ≡ spec.lookup file.now group.now key.now }
 {
-    match wellformed::check(file) {
-        Checked::Refused(f) => Ends::Refused(f),
-        Checked::Sound => {
-            if line::form::is_group(group) {
-                if line::form::is_key(key) {
-                    return ends_of(rows::find_key(file, group, key));
-                }
-                return Ends::Refused(Fault::BadArgument);
-            }
-            Ends::Refused(Fault::BadArgument)
-        }
+    wellformed::check(file)?;
+    if !line::form::is_group(group) || !line::form::is_key(key) {
+        return Err(Fault::BadArgument);
     }
+    ends_of(rows::find_key(file, group, key))
 }
 
 // The raw value as a part of the file; empty when refused.
 pub fn lookup<'a, 'b>(file: &'a [u8], group: &'b [u8], key: &'b [u8]) -> &'a [u8]
     ensures { result.now ≡ spec.part_of file.now (spec.lookup file.now group.now key.now) }
 {
-    let Ends::At { from, to } = lookup_ends(file, group, key) else {
+    let Ok(Ends { from, to }) = lookup_ends(file, group, key) else {
         return &file[..0];
     };
     &file[from..to]
 }
 
 // The raw value of a plain key that a locale takes in a file already checked, by its two ends: 8.
-pub fn chosen_ends(file: &[u8], group: &[u8], key: &[u8], locale: &[u8]) -> Ends
+pub fn chosen_ends(file: &[u8], group: &[u8], key: &[u8], locale: &[u8]) -> Result<Ends, Fault>
     requires { (none_bad file.now ≡ true) × (plain_form key.now ≡ true) × (locale_form locale.now ≡ true) }
-    ensures { spec.answered result ≡ choice.chosen_ends (read_rows file.now) group.now key.now locale.now }
+    ensures { result ≡ choice.chosen_ends (read_rows file.now) group.now key.now locale.now }
 {
     ends_of(choice::choose_row(file, group, key, locale))
 }
 
 // The raw value of a plain key that a locale takes, by its two ends: 1 to 6, 7, 8.
-pub fn choose_ends(file: &[u8], group: &[u8], key: &[u8], locale: &[u8]) -> Ends
-    ensures { spec.answered result ≡ choice.choose file.now group.now key.now locale.now }
+pub fn choose_ends(file: &[u8], group: &[u8], key: &[u8], locale: &[u8]) -> Result<Ends, Fault>
+    ensures { result ≡ choice.choose file.now group.now key.now locale.now }
 {
-    match wellformed::check(file) {
-        Checked::Refused(f) => Ends::Refused(f),
-        Checked::Sound => {
-            if line::form::is_group(group) {
-                if line::form::is_plain(key) {
-                    if line::form::is_locale(locale) {
-                        return chosen_ends(file, group, key, locale);
-                    }
-                    return Ends::Refused(Fault::BadArgument);
-                }
-                return Ends::Refused(Fault::BadArgument);
-            }
-            Ends::Refused(Fault::BadArgument)
-        }
+    wellformed::check(file)?;
+    if !line::form::is_group(group)
+        || !line::form::is_plain(key)
+        || !line::form::is_locale(locale)
+    {
+        return Err(Fault::BadArgument);
     }
+    chosen_ends(file, group, key, locale)
 }
 
 // The chosen raw value as a part of the file; empty when refused.
 pub fn choose<'a, 'b>(file: &'a [u8], group: &'b [u8], key: &'b [u8], locale: &'b [u8]) -> &'a [u8]
     ensures { result.now ≡ spec.part_of file.now (choice.choose file.now group.now key.now locale.now) }
 {
-    let Ends::At { from, to } = choose_ends(file, group, key, locale) else {
+    let Ok(Ends { from, to }) = choose_ends(file, group, key, locale) else {
         return &file[..0];
     };
     &file[from..to]
 }
 
 // Well formed and complete, or the fault: 1 to 6, 18.
-pub fn is_complete(file: &[u8]) -> Checked
-    ensures { check.answered result ≡ whole.complete file.now }
+pub fn is_complete(file: &[u8]) -> Result<(), Fault>
+    ensures { result ≡ whole.complete file.now }
 {
-    match wellformed::check(file) {
-        Checked::Refused(f) => Checked::Refused(f),
-        Checked::Sound => match complete::complete_rows(file) {
-            Completed::Complete => Checked::Sound,
-            Completed::Refused(f) => Checked::Refused(f),
-        },
-    }
+    wellformed::check(file).and_then(|()| complete::complete_rows(file))
 }

@@ -29,7 +29,6 @@ use Rattle.choice.specs.Locale.{chosen}
 use Rattle.entry.specs.Lookup as ends
 use Rattle.entry.specs.Choose.{chosen_ends}
 use Rattle.entry.specs.declared.Ends.{Ends}
-use Rattle.entry.specs.declared.Ends.TheVariants.{At}
 use Rattle.entry.proofs.Lookups.{row_inside, row-stands, chosen-inside, chosen-stands}
 use Rattle.exec.specs.Expand.{name_in, name_text, icon_text}
 use Rattle.exec.specs.Step.{ReadTo}
@@ -128,11 +127,11 @@ text-given {file = file} {v = v} {e = e} w r = read-given (read_text (part v e f
 -- ---- Name and Icon
 
 -- the ends that a choice told lie in the file, and what stands between them is no longer
-pub chosen-within : (file group key locale : List ℕ) {r : Ends} {from to : ℕ} → ends.answered r ≡ chosen_ends (read_rows file) group key locale → r ≡ At from to
-    → (from ≤ to) × (to ≤ length file) × (length (part from to file) ≤ length file)
-chosen-within file group key locale {from = from} {to = to} e i =
+pub chosen-within : (file group key locale : List ℕ) {r : Answer Ends} {x : Ends} → r ≡ chosen_ends (read_rows file) group key locale → r ≡ Ok x
+    → (x.from ≤ x.to) × (x.to ≤ length file) × (length (part x.from x.to file) ≤ length file)
+chosen-within file group key locale {x = x} e i =
     let w = rw (← e, i) at (chosen-inside file group key locale) in
-    (w.0, w.1, part-short from to file w.1)
+    (w.0, w.1, part-short x.from x.to file w.1)
 
 module _ (file locale : List ℕ) where
   -- a group's Name is the text of the value chosen, or the choice's refusal

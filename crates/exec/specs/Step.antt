@@ -1,9 +1,7 @@
 -- What the inner functions of this crate answer, by the definition of the expansion. Assumes nothing.
-use Rattle.std.specs.Prelude.{◌≡◌, ℕ, ◌≤◌, List, length, Ok, Err}
+use Rattle.std.specs.Prelude.{◌≡◌, ℕ, ◌≤◌, List, length}
 use Rattle.base.specs.Over.{at_front}
 use Rattle.fault.specs.Answer.{Answer, then}
-use Rattle.exec.specs.declared.Counted.{Counted}
-use Rattle.exec.specs.declared.Counted.TheVariants as counted
 use Rattle.text.specs.Step.{text_of}
 
 -- a text was read to the start of a buffer s with room for it, which became t: how long it is, or its refusal
@@ -11,8 +9,3 @@ pub record ReadTo (a : Answer (List ℕ)) (s : List ℕ) (r : Answer ℕ) (t : L
   pub tells : r ≡ then length a
   pub is : t ≡ at_front s (text_of a)
   pub fits : length (text_of a) ≤ length s
-
--- what was asked: how many items, or the refusal
-abbrev pub asked_as : Counted → Answer ℕ
-asked_as (counted.Items n) = Ok n
-asked_as (counted.Refused f) = Err f

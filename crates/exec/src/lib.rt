@@ -18,42 +18,26 @@ ghost use Rattle.command.specs.Step.{codes_in};
 ghost use Rattle.run.specs.Run as run;
 ghost use Rattle.exec.specs.Expand as spec;
 ghost use Rattle.run.specs.Step.{items_in};
-ghost use Rattle.exec.specs.Step.{asked_as};
 
 use command::{Checked, Seen};
 use fault::Fault;
 use record::Bounds;
-use wellformed::Checked as FileChecked;
 
-// What was asked: how many items there are, or the refusal.
-#[derive(Clone, Copy)]
-pub enum Counted {
-    Items(usize),
-    Refused(Fault),
-}
-
-// The file, the list, the locale, the items and the location: 1 to 6, 14, 7, 10.
-pub fn ask(file: &[u8], locale: &[u8], location: &[u8], list: &[u8]) -> Counted
-    ensures { asked_as result ≡ then length (spec.asked_items file.now locale.now location.now list.now) }
+// How many items there are, where the file, the list, the locale, the items and the location pass: 1 to 6, 14, 7, 10.
+pub fn ask(file: &[u8], locale: &[u8], location: &[u8], list: &[u8]) -> Result<usize, Fault>
+    ensures { result ≡ then length (spec.asked_items file.now locale.now location.now list.now) }
 {
-    match wellformed::check(file) {
-        FileChecked::Refused(f) => Counted::Refused(f),
-        FileChecked::Sound => {
-            let Some(n) = record::count(list, 2, base::LIST_MOST) else {
-                return Counted::Refused(Fault::Damaged);
-            };
-            if line::form::is_locale(locale) {
-                if asked::are_fit(list) {
-                    if asked::is_fit_location(location) {
-                        return Counted::Items(n);
-                    }
-                    return Counted::Refused(Fault::UnfitText);
-                }
-                return Counted::Refused(Fault::UnfitText);
-            }
-            Counted::Refused(Fault::BadArgument)
-        }
+    wellformed::check(file)?;
+    let Some(n) = record::count(list, 2, base::LIST_MOST) else {
+        return Err(Fault::Damaged);
+    };
+    if !line::form::is_locale(locale) {
+        return Err(Fault::BadArgument);
     }
+    if !asked::are_fit(list) || !asked::is_fit_location(location) {
+        return Err(Fault::UnfitText);
+    }
+    Ok(n)
 }
 
 // Whether a run is among those that so many items give.
@@ -173,8 +157,8 @@ pub fn expand(
     ensures output { out.new ≡ held (spec.expand file.now locale.now location.now list.now run) out.old }
 {
     match ask(file, locale, location, list) {
-        Counted::Refused(f) => Err(f),
-        Counted::Items(count) => {
+        Err(f) => Err(f),
+        Ok(count) => {
             expand_group(
                 file,
                 b"Desktop Entry",

@@ -6,7 +6,6 @@ ghost use Rattle.text.specs.Escape.{read_text};
 ghost use Rattle.line.specs.Form.{locale_form};
 ghost use Rattle.rows.specs.Rows.{read_rows};
 ghost use Rattle.rows.specs.Find.{none_bad};
-ghost use Rattle.entry.specs.Lookup as ends;
 ghost use Rattle.exec.specs.Expand as spec;
 ghost use Rattle.exec.specs.Step.{ReadTo};
 
@@ -22,12 +21,12 @@ pub fn read_whole(raw: &[u8], out: &mut [u8]) -> Result<usize, Fault>
 }
 
 // The refusal of a choice, with its number and place; of one that was not refused, no bytes.
-fn refusal_of(e: Ends) -> Result<usize, Fault>
-    ensures { result ≡ then (λ _. 0) (ends.answered e) }
+fn refusal_of(e: Result<Ends, Fault>) -> Result<usize, Fault>
+    ensures { result ≡ then (λ _. 0) e }
 {
     match e {
-        Ends::At { from: _, to: _ } => Ok(0),
-        Ends::Refused(f) => Err(f),
+        Ok(_) => Ok(0),
+        Err(f) => Err(f),
     }
 }
 
@@ -38,7 +37,7 @@ pub fn name_text(file: &[u8], locale: &[u8], wanted: bool, out: &mut [u8]) -> Re
 {
     if wanted {
         let chosen = entry::chosen_ends(file, b"Desktop Entry", b"Name", locale);
-        let Ends::At { from, to } = chosen else {
+        let Ok(Ends { from, to }) = chosen else {
             return refusal_of(chosen);
         };
         return read_whole(&file[from..to], out);
@@ -58,7 +57,7 @@ pub fn icon_text(
     ensures { ReadTo (spec.icon_text (read_rows file.now) group.now locale.now wanted) out.old result out.new }
 {
     if wanted {
-        let Ends::At { from, to } = entry::chosen_ends(file, group, b"Icon", locale) else {
+        let Ok(Ends { from, to }) = entry::chosen_ends(file, group, b"Icon", locale) else {
             return Ok(0);
         };
         return read_whole(&file[from..to], out);

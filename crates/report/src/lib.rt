@@ -9,7 +9,6 @@ use entry::Ends;
 use fault::Fault;
 use journal::Forgot;
 use std::io;
-use wellformed::Checked;
 
 pub fn say(rt: &impl Print, words: &[u8]) -> io::Result<()> {
     rt.write_all(words)
@@ -86,24 +85,24 @@ fn say_refused(rt: &impl Print, f: Fault) -> io::Result<()> {
 }
 
 // The answer of the check or of completeness.
-pub fn tell_checked(rt: &impl Print, c: Checked) -> io::Result<()> {
+pub fn tell_checked(rt: &impl Print, c: Result<(), Fault>) -> io::Result<()> {
     match c {
-        Checked::Sound => say(rt, b": accepted")?,
-        Checked::Refused(f) => say_refused(rt, f)?,
+        Ok(()) => say(rt, b": accepted")?,
+        Err(f) => say_refused(rt, f)?,
     }
     say(rt, b"\n")
 }
 
 // The answer of a call that finds a value: its two ends, and the part of the file.
-pub fn tell_value(rt: &impl Print, e: Ends, part: &[u8]) -> io::Result<()> {
+pub fn tell_value(rt: &impl Print, e: Result<Ends, Fault>, part: &[u8]) -> io::Result<()> {
     match e {
-        Ends::At { from, to } => {
+        Ok(Ends { from, to }) => {
             say(rt, b": ")?;
             say_number(rt, from)?;
             say(rt, b" to ")?;
             say_number(rt, to)?;
         }
-        Ends::Refused(f) => say_refused(rt, f)?,
+        Err(f) => say_refused(rt, f)?,
     }
     say(rt, b", ")?;
     quote(rt, part)?;

@@ -11,13 +11,6 @@ use Rattle.line.specs.declared.Line.{Line}
 use Rattle.line.specs.declared.Line.TheVariants.{Blank, Comment, Header, Entry, Bad}
 use Rattle.rows.specs.Rows.{Row, read_rows}
 use Rattle.rows.specs.Title.{desktop_entry, Title, Nameless, Group, Key, title, same_title, seeing, has}
-use Rattle.wellformed.specs.declared.Checked.{Checked}
-use Rattle.wellformed.specs.declared.Checked.TheVariants as checked
-
--- what the answer says
-abbrev pub answered : Checked → Answer (Unit {0})
-answered checked.Sound = Ok tt
-answered (checked.Refused f) = Err f
 
 -- A title after those seen: the first must be the group named, and none comes twice.
 unfoldable pub title_fault : List ℕ → List Title → Title → ℕ → Fault → Option Fault

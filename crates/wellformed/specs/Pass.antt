@@ -14,8 +14,8 @@ use Rattle.rows.specs.Title.{Title, Nameless, Group, Key, title_of, same_title, 
 use Rattle.wellformed.specs.Check.{plain_all}
 use Rattle.wellformed.specs.declared.Part.{Part}
 use Rattle.wellformed.specs.declared.State.{State}
-use Rattle.wellformed.specs.declared.Scanned.{Scanned}
-use Rattle.wellformed.specs.declared.Scanned.TheVariants as scan
+use Rattle.wellformed.specs.declared.Order.{Order}
+use Rattle.wellformed.specs.declared.Order.TheVariants.{Settled, Doubtful}
 
 -- ---- parts of the file
 
@@ -115,16 +115,15 @@ after file p there s (Bad b) = s
 -- ---- the two passes
 
 -- what the first pass says of 2 to 5
-abbrev pub scanned : Scanned → Answer (Unit {0})
-scanned scan.Settled = Ok tt
-scanned scan.Doubtful = Ok tt
-scanned (scan.Refused f) = Err f
+abbrev pub scanned : Answer Order → Answer (Unit {0})
+scanned (Ok order) = Ok tt
+scanned (Err f) = Err f
 
 -- what it says of 6
-abbrev pub Settles : Scanned → List Row → Type 0
-Settles scan.Settled rs = Ok tt ≡ plain_all rs
-Settles scan.Doubtful rs = Unit
-Settles (scan.Refused f) rs = Unit
+abbrev pub Settles : Answer Order → List Row → Type 0
+Settles (Ok Settled) rs = Ok tt ≡ plain_all rs
+Settles (Ok Doubtful) rs = Unit
+Settles (Err f) rs = Unit
 
 -- the last key, if there is one, stands in the file
 abbrev pub LastThere : List ℕ → State → Type 0

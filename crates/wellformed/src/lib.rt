@@ -18,19 +18,11 @@ use line::Line;
 // A file below this has few enough names for the small table of marks: to clear 16 KB takes as long as to read 500 bytes.
 const FILE_SHORT: usize = 4096;
 
-// What the check answers.
+// What the first pass tells of the rule of plain keys, where it finds no fault of 2 to 5: it is kept, or left in doubt.
 #[derive(Clone, Copy)]
-pub enum Checked {
-    Sound,
-    Refused(Fault),
-}
-
-// What the first pass finds: a fault of 2 to 5 or no header, or none; then whether the rule of plain keys is settled too.
-#[derive(Clone, Copy)]
-enum Scanned {
+enum Order {
     Settled,
     Doubtful,
-    Refused(Fault),
 }
 
 // A part of the file.
@@ -70,13 +62,13 @@ fn same_bytes(file: &[u8], x: Part, y: Part) -> bool
 }
 
 // A refusal unless the test passed.
-fn refuse_unless(passed: bool, f: Fault) -> Checked
-    ensures { spec.answered result ≡ need passed f }
+fn refuse_unless(passed: bool, f: Fault) -> Result<(), Fault>
+    ensures { result ≡ need passed f }
 {
     if passed {
-        return Checked::Sound;
+        return Ok(());
     }
-    Checked::Refused(f)
+    Err(f)
 }
 
 // A group's name after the rows before `p`: it must lead where it is the first, and else be new. Without a mark it surely is. It is marked.
@@ -88,10 +80,10 @@ fn header(
     first: bool,
     name: &[u8],
     marks: &mut [u64],
-) -> Checked
+) -> Result<(), Fault>
     requires { (p ≤ length file.now) × (0 < length marks.old) × (none_bad (take p file.now) ≡ true)
         × (marked marks.old 0 name.now ≡ false → title.has (read_rows (take p file.now)) (title.Group name.now) ≡ false) }
-    ensures { (spec.answered result ≡ pass.title_after first leading.now (read_rows (take p file.now)) (title.Group name.now) n (RepeatedGroup n))
+    ensures { (result ≡ pass.title_after first leading.now (read_rows (take p file.now)) (title.Group name.now) n (RepeatedGroup n))
         × (marks.new ≡ with_mark marks.old 0 name.now) }
 {
     let there = marks::mark(marks, 0, name);
@@ -102,7 +94,7 @@ fn header(
         let again = rows::find_group(&file[..p], b"", name).is_some();
         return refuse_unless(!again, Fault::RepeatedGroup { line: n });
     }
-    Checked::Sound
+    Ok(())
 }
 
 // The same of a key in its group, under the group's number.
@@ -115,22 +107,22 @@ fn entry(
     group: Part,
     name: &[u8],
     marks: &mut [u64],
-) -> Checked
+) -> Result<(), Fault>
     requires { (p ≤ length file.now) × (0 < length marks.old) × (none_bad (take p file.now) ≡ true) × pass.Lies file.now group
         × (marked marks.old tag name.now ≡ false → title.has (read_rows (take p file.now)) (title.Key (pass.bytes file.now group) name.now) ≡ false) }
-    ensures { (spec.answered result ≡ pass.title_after (eqb tag 0) leading.now (read_rows (take p file.now)) (title.Key (pass.bytes file.now group) name.now) n (RepeatedKey n))
+    ensures { (result ≡ pass.title_after (eqb tag 0) leading.now (read_rows (take p file.now)) (title.Key (pass.bytes file.now group) name.now) n (RepeatedKey n))
         × (marks.new ≡ with_mark marks.old tag name.now) }
 {
     let there = marks::mark(marks, tag, name);
     if tag == 0 {
-        return Checked::Refused(Fault::FirstGroup { line: n });
+        return Err(Fault::FirstGroup { line: n });
     }
     if there {
         let own = bytes(file, group);
         let again = rows::find_key(&file[..p], own, name).is_some();
         return refuse_unless(!again, Fault::RepeatedKey { line: n });
     }
-    Checked::Sound
+    Ok(())
 }
 
 // A row in the first pass, with its line's reading: whether it has a fault of 2 to 5. Its name is marked.
@@ -142,10 +134,10 @@ fn read_row(
     leading: &[u8],
     s: State,
     marks: &mut [u64],
-) -> Checked
+) -> Result<(), Fault>
     requires { pass.Reads file.now row r × pass.Within file.now s × (none_bad (take row.from file.now) ≡ true)
         × pass.MarksTell marks.old s.tag (pass.bytes file.now s.group) (read_rows (take row.from file.now)) }
-    ensures { (spec.answered result ≡ pass.row_after (eqb s.tag 0) leading.now (read_rows (take row.from file.now)) (pass.named file.now row r s) n r)
+    ensures { (result ≡ pass.row_after (eqb s.tag 0) leading.now (read_rows (take row.from file.now)) (pass.named file.now row r s) n r)
         × (marks.new ≡ pass.marks_with marks.old s.tag (pass.named file.now row r s)) }
 {
     let l = bytes(file, row);
@@ -153,15 +145,11 @@ fn read_row(
     let tag = s.tag;
     let group = s.group;
     match r {
-        Line::Blank => Checked::Sound,
-        Line::Comment => Checked::Sound,
-        Line::Bad(byte) => Checked::Refused(Fault::BadLine { line: n, byte }),
+        Line::Blank => Ok(()),
+        Line::Comment => Ok(()),
+        Line::Bad(byte) => Err(Fault::BadLine { line: n, byte }),
         Line::Header { end } => header(file, p, n, leading, tag == 0, &l[1..end], marks),
-        Line::Entry {
-            key: _,
-            name,
-            value: _,
-        } => entry(file, p, n, leading, tag, group, &l[..name], marks),
+        Line::Entry { name, .. } => entry(file, p, n, leading, tag, group, &l[..name], marks),
     }
 }
 
@@ -235,11 +223,7 @@ fn after(file: &[u8], row: Part, r: Line, s: State, there: bool) -> State
             };
             after_header(s, name)
         }
-        Line::Entry {
-            key,
-            name,
-            value: _,
-        } => {
+        Line::Entry { key, name, .. } => {
             let x = Part { from: p, len: key };
             if there {
                 return after_plain(file, s, x);
@@ -266,7 +250,7 @@ fn start() -> State
 }
 
 // The first pass: every line is read once. The table of marks may hold anything.
-fn scan(file: &[u8], leading: &[u8], marks: &mut [u64]) -> Scanned
+fn scan(file: &[u8], leading: &[u8], marks: &mut [u64]) -> Result<Order, Fault>
     requires { 0 < length marks.old }
     ensures { (pass.scanned result ≡ spec.titled_as leading.now (read_rows file.now)) × pass.Settles result (read_rows file.now) }
 {
@@ -280,52 +264,44 @@ fn scan(file: &[u8], leading: &[u8], marks: &mut [u64]) -> Scanned
             len: e - p,
         };
         let r = line::read_line(bytes(file, row));
-        match read_row(file, row, r, n, leading, s, marks) {
-            Checked::Refused(f) => return Scanned::Refused(f),
-            Checked::Sound => {
-                s = after(file, row, r, s, false);
-                p = e + 1;
-                n += 1;
-            }
-        }
+        read_row(file, row, r, n, leading, s, marks)?;
+        s = after(file, row, r, s, false);
+        p = e + 1;
+        n += 1;
     }
     let want = s.want;
     if s.tag == 0 {
-        return Scanned::Refused(Fault::FirstGroup { line: 0 });
+        return Err(Fault::FirstGroup { line: 0 });
     }
     if s.doubt {
-        return Scanned::Doubtful;
+        return Ok(Order::Doubtful);
     }
     if want.len != 0 {
-        return Scanned::Doubtful;
+        return Ok(Order::Doubtful);
     }
-    Scanned::Settled
+    Ok(Order::Settled)
 }
 
 // A row in the second pass: whether the plain key of a postfixed key is missing. It is looked for, unless it is the one read or found last.
-fn ask_row(file: &[u8], row: Part, r: Line, n: usize, s: State) -> Checked
+fn ask_row(file: &[u8], row: Part, r: Line, n: usize, s: State) -> Result<(), Fault>
     requires { pass.Reads file.now row r × pass.Within file.now s × (none_bad file.now ≡ true) × pass.LastThere file.now s }
-    ensures { spec.answered result ≡ pass.plain_at file.now row.from s n r }
+    ensures { result ≡ pass.plain_at file.now row.from s n r }
 {
     let group = s.group;
     let last = s.last;
     let from = row.from;
     match r {
-        Line::Blank => Checked::Sound,
-        Line::Comment => Checked::Sound,
-        Line::Bad(_) => Checked::Sound,
-        Line::Header { end: _ } => Checked::Sound,
-        Line::Entry {
-            key,
-            name,
-            value: _,
-        } => {
+        Line::Blank => Ok(()),
+        Line::Comment => Ok(()),
+        Line::Bad(_) => Ok(()),
+        Line::Header { .. } => Ok(()),
+        Line::Entry { key, name, .. } => {
             if key == name {
-                return Checked::Sound;
+                return Ok(());
             }
             let x = Part { from, len: key };
             if same_bytes(file, last, x) {
-                return Checked::Sound;
+                return Ok(());
             }
             let own = bytes(file, group);
             let there = rows::find_key(file, own, bytes(file, x)).is_some();
@@ -335,9 +311,9 @@ fn ask_row(file: &[u8], row: Part, r: Line, n: usize, s: State) -> Checked
 }
 
 // The second pass, for a file in which some postfixed key does not follow its plain key.
-fn plain_keys(file: &[u8]) -> Checked
+fn plain_keys(file: &[u8]) -> Result<(), Fault>
     requires { none_bad file.now ≡ true }
-    ensures { spec.answered result ≡ spec.plain_all (read_rows file.now) }
+    ensures { result ≡ spec.plain_all (read_rows file.now) }
 {
     let mut p: usize = 0;
     let mut n: usize = 1;
@@ -349,50 +325,45 @@ fn plain_keys(file: &[u8]) -> Checked
             len: e - p,
         };
         let r = line::read_line(bytes(file, row));
-        match ask_row(file, row, r, n, s) {
-            Checked::Refused(f) => return Checked::Refused(f),
-            Checked::Sound => {
-                s = after(file, row, r, s, true);
-                p = e + 1;
-                n += 1;
-            }
-        }
+        ask_row(file, row, r, n, s)?;
+        s = after(file, row, r, s, true);
+        p = e + 1;
+        n += 1;
     }
-    Checked::Sound
+    Ok(())
 }
 
 // Both passes, with a table of marks.
-fn check_with(file: &[u8], leading: &[u8], marks: &mut [u64]) -> Checked
+fn check_with(file: &[u8], leading: &[u8], marks: &mut [u64]) -> Result<(), Fault>
     requires { 0 < length marks.old }
-    ensures { spec.answered result ≡ spec.checked_rows leading.now (read_rows file.now) }
+    ensures { result ≡ spec.checked_rows leading.now (read_rows file.now) }
 {
-    match scan(file, leading, marks) {
-        Scanned::Refused(f) => Checked::Refused(f),
-        Scanned::Settled => Checked::Sound,
-        Scanned::Doubtful => plain_keys(file),
+    match scan(file, leading, marks)? {
+        Order::Settled => Ok(()),
+        Order::Doubtful => plain_keys(file),
     }
 }
 
-fn check_short(file: &[u8], leading: &[u8]) -> Checked
-    ensures { spec.answered result ≡ spec.checked_rows leading.now (read_rows file.now) }
+fn check_short(file: &[u8], leading: &[u8]) -> Result<(), Fault>
+    ensures { result ≡ spec.checked_rows leading.now (read_rows file.now) }
 {
     let mut marks = [0u64; 256];
     check_with(file, leading, &mut marks)
 }
 
-fn check_long(file: &[u8], leading: &[u8]) -> Checked
-    ensures { spec.answered result ≡ spec.checked_rows leading.now (read_rows file.now) }
+fn check_long(file: &[u8], leading: &[u8]) -> Result<(), Fault>
+    ensures { result ≡ spec.checked_rows leading.now (read_rows file.now) }
 {
     let mut marks = [0u64; 2048];
     check_with(file, leading, &mut marks)
 }
 
 // The check of a file whose first group has this name. A short file has a small table.
-fn check_as(file: &[u8], leading: &[u8]) -> Checked
-    ensures { spec.answered result ≡ spec.check_as leading.now file.now }
+fn check_as(file: &[u8], leading: &[u8]) -> Result<(), Fault>
+    ensures { result ≡ spec.check_as leading.now file.now }
 {
     if base::FILE_MOST < file.len() {
-        return Checked::Refused(Fault::TooLong);
+        return Err(Fault::TooLong);
     }
     if file.len() < FILE_SHORT {
         return check_short(file, leading);
@@ -401,8 +372,8 @@ fn check_as(file: &[u8], leading: &[u8]) -> Checked
 }
 
 // The check of an entry's file: 1, the earliest line with 2 to 5, 3 for no header, 6.
-pub fn check(file: &[u8]) -> Checked
-    ensures { spec.answered result ≡ spec.check file.now }
+pub fn check(file: &[u8]) -> Result<(), Fault>
+    ensures { result ≡ spec.check file.now }
 {
     check_as(file, b"Desktop Entry")
 }

@@ -11,59 +11,58 @@ use Rattle.text.proofs.OutputLaws.{leaves-refused}
 use Rattle.rows.specs.Rows.{read_rows}
 use Rattle.rows.specs.Title.{desktop_entry}
 use Rattle.wellformed.proofs.Accepts.{check-good}
-use Rattle.exec.specs.Step.{asked_as}
 use Rattle.exec.proofs.Asking.{Granted, asked-given}
 use Rattle.actions.specs.Actions as spec
 use Rattle.actions.specs.Step.{elements}
 use Rattle.actions.proofs.Groups.{group-none, group-some}
 use Rattle.actions.proofs.Answering.{action-unasked, action-wrong, action-other, action-listed}
 use Rattle.actions.proofs.expand_action.Goals as goal
-use Rattle.actions.proofs.expand_action.Goals.{In-Items}
+use Rattle.actions.proofs.expand_action.Goals.{In-Ok}
 
 -- what was asked is granted
-granted : (c : In-Items) → let a = c.args in
-    Granted a.file.now a.locale.now a.location.now a.list.now c.in-Items.count
+granted : (c : In-Ok) → let a = c.args in
+    Granted a.file.now a.locale.now a.location.now a.list.now c.in-Ok.count
 granted c =
     let a = c.args in
-    asked-given a.file.now a.locale.now a.location.now a.list.now (sym (ap asked_as c.in-Items.is) ∙ c.ask.ensures)
+    asked-given a.file.now a.locale.now a.location.now a.list.now (sym c.in-Ok.is ∙ c.ask.ensures)
 
 pub value-raw-requires : goal.value-raw-requires
-value-raw-requires c = let g = granted (goal.at.value-raw-requires c).In-Items in (check-good desktop_entry _ g.checks).0
+value-raw-requires c = let g = granted (goal.at.value-raw-requires c).In-Ok in (check-good desktop_entry _ g.checks).0
 
 pub group_asked-group-requires : goal.group_asked-group-requires
-group_asked-group-requires c = let g = granted (goal.at.group_asked-group-requires c).In-Items in (check-good desktop_entry _ g.checks).0
+group_asked-group-requires c = let g = granted (goal.at.group_asked-group-requires c).In-Ok in (check-good desktop_entry _ g.checks).0
 
 pub expand_group-requires : goal.expand_group-requires
 expand_group-requires c =
-    let g = granted (goal.at.expand_group-requires c).In-Items in
+    let g = granted (goal.at.expand_group-requires c).In-Ok in
     let k = check-good desktop_entry _ g.checks in
     (k.0, k.1, g.reads, g.counts, g.locale-form)
 
 pub returns-then-group-eq0 : goal.returns-then-group-eq0
 returns-then-group-eq0 c =
     let a = c.args in
-    let ids = then-given (spend_all (Some 0)) (elements_of c.value-raw.result.now) (sym c.in_ok-room_after-in-Items.was ∙ c.room_after.ensures) in
+    let ids = then-given (spend_all (Some 0)) (elements_of c.value-raw.result.now) (sym c.in_ok-room_after-in-Ok.was ∙ c.room_after.ensures) in
     let n = group-none (any (same a.action.now) (elements c.value-raw.result.now) && spec.is_action (read_rows a.file.now) a.action.now) a.action.now c.group_asked-group.ensures c.if-group-eq0.true in
     leaves-refused (spec.expand_action a.file.now a.action.now a.locale.now a.location.now a.list.now a.run) _ a.out.now
-    (action-other a.file.now a.action.now a.locale.now a.location.now a.list.now a.run (granted (goal.at.returns-then-group-eq0 c).In-Items) c.value-raw.ensures ids.1 n)
+    (action-other a.file.now a.action.now a.locale.now a.location.now a.list.now a.run (granted (goal.at.returns-then-group-eq0 c).In-Ok) c.value-raw.ensures ids.1 n)
 
-pub returns-in-Refused : goal.returns-in-Refused
-returns-in-Refused c =
+pub returns-in-Err : goal.returns-in-Err
+returns-in-Err c =
     let a = c.args in
     leaves-refused (spec.expand_action a.file.now a.action.now a.locale.now a.location.now a.list.now a.run) _ a.out.now
-    (action-unasked a.file.now a.action.now a.locale.now a.location.now a.list.now a.run (sym (ap asked_as c.in-Refused.is) ∙ c.ask.ensures))
+    (action-unasked a.file.now a.action.now a.locale.now a.location.now a.list.now a.run (sym c.in-Err.is ∙ c.ask.ensures))
 
-pub returns-in_err-room_after-in-Items : goal.returns-in_err-room_after-in-Items
-returns-in_err-room_after-in-Items c =
+pub returns-in_err-room_after-in-Ok : goal.returns-in_err-room_after-in-Ok
+returns-in_err-room_after-in-Ok c =
     let a = c.args in
     let p = err_from_is_err_and c.from_residual.result c.from_residual.ensures.1 in
     rw (p.1, p.2) (leaves-refused (spec.expand_action a.file.now a.action.now a.locale.now a.location.now a.list.now a.run) _ a.out.now
-    (action-wrong a.file.now a.action.now a.locale.now a.location.now a.list.now a.run (granted (goal.at.returns-in_err-room_after-in-Items c).In-Items) c.value-raw.ensures
-    (then-refused (spend_all (Some 0)) (elements_of c.value-raw.result.now) (sym c.in_err-room_after-in-Items.was ∙ c.room_after.ensures))))
+    (action-wrong a.file.now a.action.now a.locale.now a.location.now a.list.now a.run (granted (goal.at.returns-in_err-room_after-in-Ok c).In-Ok) c.value-raw.ensures
+    (then-refused (spend_all (Some 0)) (elements_of c.value-raw.result.now) (sym c.in_err-room_after-in-Ok.was ∙ c.room_after.ensures))))
 
 pub returns-else-group-eq0 : goal.returns-else-group-eq0
 returns-else-group-eq0 c =
     let a = c.args in
-    let ids = then-given (spend_all (Some 0)) (elements_of c.value-raw.result.now) (sym c.in_ok-room_after-in-Items.was ∙ c.room_after.ensures) in
+    let ids = then-given (spend_all (Some 0)) (elements_of c.value-raw.result.now) (sym c.in_ok-room_after-in-Ok.was ∙ c.room_after.ensures) in
     let y = group-some (any (same a.action.now) (elements c.value-raw.result.now) && spec.is_action (read_rows a.file.now) a.action.now) a.action.now c.group_asked-group.ensures c.if-group-eq0.false in
-    rw (action-listed a.file.now a.action.now a.locale.now a.location.now a.list.now a.run (granted (goal.at.returns-else-group-eq0 c).In-Items) c.value-raw.ensures ids.1 y.0, ← y.1) c.expand_group.ensures
+    rw (action-listed a.file.now a.action.now a.locale.now a.location.now a.list.now a.run (granted (goal.at.returns-else-group-eq0 c).In-Ok) c.value-raw.ensures ids.1 y.0, ← y.1) c.expand_group.ensures

@@ -14,21 +14,21 @@ unfolding complete_rows
 returns-in_default c =
     rw (key-none c.args.file.now (ascii "Type") c.find_key.ensures c.in_default.is)
 
-pub returns-then-has_keys : goal.returns-then-has_keys
-returns-then-has_keys c =
-    let k = row (goal.at.returns-then-has_keys c).In-Some in
-    rw (complete-type _ k.found, ← k.value-is, ← c.is_type.ensures, c.if-is_type.true, ← c.has_keys.ensures, c.if-has_keys.true)
-    c.check_booleans.ensures
+pub returns-then-not-is_type : goal.returns-then-not-is_type
+returns-then-not-is_type c =
+    let k = row (goal.at.returns-then-not-is_type c).In-Some in
+    rw (complete-type _ k.found, ← k.value-is, ← c.is_type.ensures, c.if-not-is_type.true, ← k.line-is)
 
-pub returns-then-is_type : goal.returns-then-is_type
-returns-then-is_type c =
-    let k = row (goal.at.returns-then-is_type c).In-Some in
-    rw (complete-type _ k.found, ← k.value-is, ← c.is_type.ensures, c.if-is_type.true, ← c.has_keys.ensures, c.if-has_keys.false)
+pub returns-then-not-has_keys : goal.returns-then-not-has_keys
+returns-then-not-has_keys c =
+    let k = row (goal.at.returns-then-not-has_keys c).In-Some in
+    rw (complete-type _ k.found, ← k.value-is, ← c.is_type.ensures, c.if-not-is_type.false, ← c.has_keys.ensures, c.if-not-has_keys.true)
 
 pub returns : goal.returns
 returns c =
     let k = row (goal.at.returns c).In-Some in
-    rw (complete-type _ k.found, ← k.value-is, ← c.is_type.ensures, c.if-is_type.false, ← k.line-is)
+    rw (complete-type _ k.found, ← k.value-is, ← c.is_type.ensures, c.if-not-is_type.false, ← c.has_keys.ensures, c.if-not-has_keys.false)
+    c.check_booleans.ensures
 
 pub slice_bounds-is_type-count : goal.slice_bounds-is_type-count
 slice_bounds-is_type-count c = (row (goal.at.slice_bounds-is_type-count c).In-Some).value-le

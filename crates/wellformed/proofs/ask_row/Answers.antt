@@ -1,6 +1,6 @@
 -- `ask_row` meets its contract: the plain key is the entry's own, the last one, or looked for. Assumes nothing.
 use mathlib.Core.Path.{sym, ◌∙◌}
-use borrow.Author.Tests.{eq-eqb, ne_eqb}
+use borrow.Author.Tests.{ne_eqb}
 use Rattle.rows.specs.Rows.{read_rows}
 use Rattle.rows.specs.Title.{find_row, Key}
 use Rattle.rows.proofs.Told.{found-there}
@@ -21,23 +21,8 @@ returns-else-same_bytes c =
     let t = found-there (find_row (read_rows c.args.file.now) (Key c.bytes-own.result.now c.bytes.result.now)) c.is_some-there.ensures c.find_key.ensures in
     rw (c.in-Entry.is, ne_eqb _ _ c.if-key-name.false, ← c.bytes-own.ensures, ← c.bytes.ensures, t) c.refuse_unless.ensures
 
-pub returns-then-key-name : goal.returns-then-key-name
-returns-then-key-name c = rw (c.in-Entry.is, eq-eqb _ _ c.if-key-name.true)
-
 pub same_bytes-requires : goal.same_bytes-requires
 same_bytes-requires c = (c.requires.1.last, key-lies (rw c.in-Entry.is at c.requires.0))
 
 pub bytes-requires : goal.bytes-requires
 bytes-requires c = key-lies (rw c.in-Entry.is at c.requires.0)
-
-pub returns-in-Blank : goal.returns-in-Blank
-returns-in-Blank c = rw c.in-Blank.is
-
-pub returns-in-Comment : goal.returns-in-Comment
-returns-in-Comment c = rw c.in-Comment.is
-
-pub returns-in-Bad : goal.returns-in-Bad
-returns-in-Bad c = rw c.in-Bad.is
-
-pub returns-in-Header : goal.returns-in-Header
-returns-in-Header c = rw c.in-Header.is

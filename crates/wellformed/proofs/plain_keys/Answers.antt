@@ -1,6 +1,7 @@
 -- `plain_keys` meets its contract: what the rows from `p` on say is the whole answer. Assumes nothing.
 use mathlib.Core.Path.{refl}
 use native.Mathlib.Omega.{arith}
+use Rattle.std.proofs.lemmas.Result.{err_from_is_err_and}
 use Rattle.rows.proofs.Step.{start-le, end-le}
 use Rattle.wellformed.proofs.Places.{reads}
 use Rattle.wellformed.proofs.Plain.{asking-start, asking-missing, asking-next, asking-end}
@@ -10,14 +11,15 @@ pub ask_row-requires : goal.ask_row-requires
 ask_row-requires c =
     (reads c.args.file.now c.loop-p-test.true c.line_end-e.ensures (rw c.bytes.ensures at c.read_line-r.ensures), c.loop-p.invariant.held.within, c.requires, c.loop-p.invariant.held.last-there)
 
-pub returns-in-Refused : goal.returns-in-Refused
-returns-in-Refused c =
-    asking-missing c.args.file.now c.loop-p.invariant c.loop-p-test.true c.line_end-e.ensures (rw c.bytes.ensures at c.read_line-r.ensures) (rw c.in-Refused.is at c.ask_row.ensures)
+pub returns-in_err-ask_row : goal.returns-in_err-ask_row
+returns-in_err-ask_row c =
+    let p = err_from_is_err_and c.from_residual.result c.from_residual.ensures.1 in
+    rw (p.1, p.2) (asking-missing c.args.file.now c.loop-p.invariant c.loop-p-test.true c.line_end-e.ensures (rw c.bytes.ensures at c.read_line-r.ensures) (rw c.in_err-ask_row.was at c.ask_row.ensures))
 
 pub loop-p-preserved : goal.loop-p-preserved
 loop-p-preserved c =
     rw c.after-s.ensures
-    (asking-next c.args.file.now c.loop-p.invariant c.loop-p-test.true c.line_end-e.ensures (rw c.bytes.ensures at c.read_line-r.ensures) (rw c.in-Sound.is at c.ask_row.ensures))
+    (asking-next c.args.file.now c.loop-p.invariant c.loop-p-test.true c.line_end-e.ensures (rw c.bytes.ensures at c.read_line-r.ensures) (rw c.in_ok-ask_row.was at c.ask_row.ensures))
 
 pub loop-p-init : goal.loop-p-init
 loop-p-init c = rw c.start-s.ensures (asking-start c.args.file.now)

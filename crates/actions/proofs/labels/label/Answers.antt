@@ -17,15 +17,15 @@ returns-in_default c =
     rw (label-chosen a.file.now a.group.now a.locale.now, ← c.chosen_ends.ensures, c.in_default.is)
 
 pub slice_bounds-result-count : goal.slice_bounds-result-count
-slice_bounds-result-count c = (chosen-within _ _ _ _ c.chosen_ends.ensures c.in-At.is).0
+slice_bounds-result-count c = (chosen-within _ _ _ _ c.chosen_ends.ensures c.in-Ok.is).0
 
 pub slice_bounds-result-end-2 : goal.slice_bounds-result-end-2
-slice_bounds-result-end-2 c = (chosen-within _ _ _ _ c.chosen_ends.ensures c.in-At.is).1
+slice_bounds-result-end-2 c = (chosen-within _ _ _ _ c.chosen_ends.ensures c.in-Ok.is).1
 
 pub returns : goal.returns
 returns c =
     let a = c.args in
-    rw (label-chosen a.file.now a.group.now a.locale.now, ← c.chosen_ends.ensures, c.in-At.is)
+    rw (label-chosen a.file.now a.group.now a.locale.now, ← c.chosen_ends.ensures, c.in-Ok.is)
 
 pub slice_bounds-result-start : goal.slice_bounds-result-start
-slice_bounds-result-start c = (chosen-within _ _ _ _ c.chosen_ends.ensures c.in-At.is).0
+slice_bounds-result-start c = (chosen-within _ _ _ _ c.chosen_ends.ensures c.in-Ok.is).0

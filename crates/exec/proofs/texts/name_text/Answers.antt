@@ -18,20 +18,20 @@ returns-in_default c =
     (read-refused a.out.now (rw c.in_default.is at c.refusal_of.ensures))
 
 pub slice_bounds-read_whole-count : goal.slice_bounds-read_whole-count
-slice_bounds-read_whole-count c = (chosen-within _ _ _ _ c.chosen_ends-chosen.ensures c.in-At.is).0
+slice_bounds-read_whole-count c = (chosen-within _ _ _ _ c.chosen_ends-chosen.ensures c.in-Ok.is).0
 
 pub slice_bounds-read_whole-end : goal.slice_bounds-read_whole-end
-slice_bounds-read_whole-end c = (chosen-within _ _ _ _ c.chosen_ends-chosen.ensures c.in-At.is).1
+slice_bounds-read_whole-end c = (chosen-within _ _ _ _ c.chosen_ends-chosen.ensures c.in-Ok.is).1
 
 pub read_whole-requires : goal.read_whole-requires
 read_whole-requires c =
-    let w = chosen-within _ _ _ _ c.chosen_ends-chosen.ensures c.in-At.is in
+    let w = chosen-within _ _ _ _ c.chosen_ends-chosen.ensures c.in-Ok.is in
     omega arith
 
 pub returns-then-wanted : goal.returns-then-wanted
 returns-then-wanted c =
     let a = c.args in
-    rw (c.if-wanted.true, name-chosen a.file.now a.locale.now, ← c.chosen_ends-chosen.ensures, c.in-At.is) c.read_whole.ensures
+    rw (c.if-wanted.true, name-chosen a.file.now a.locale.now, ← c.chosen_ends-chosen.ensures, c.in-Ok.is) c.read_whole.ensures
 
 pub returns : goal.returns
 returns c =
@@ -39,4 +39,4 @@ returns c =
     rw (c.if-wanted.false, name-unasked a.file.now a.locale.now) (read_none a.out.now)
 
 pub slice_bounds-read_whole-start : goal.slice_bounds-read_whole-start
-slice_bounds-read_whole-start c = (chosen-within _ _ _ _ c.chosen_ends-chosen.ensures c.in-At.is).0
+slice_bounds-read_whole-start c = (chosen-within _ _ _ _ c.chosen_ends-chosen.ensures c.in-Ok.is).0

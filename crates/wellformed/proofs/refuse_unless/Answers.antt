@@ -1,8 +1,0 @@
--- `refuse_unless` meets its contract. Assumes nothing.
-use Rattle.wellformed.proofs.refuse_unless.Goals as goal
-
-pub returns-then-passed : goal.returns-then-passed
-returns-then-passed c = rw c.if-passed.true
-
-pub returns : goal.returns
-returns c = rw c.if-passed.false
