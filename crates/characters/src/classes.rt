@@ -1,5 +1,5 @@
-// Classes of bytes, by comparisons: one test and one return for each range.
-ghost use Rattle.std.specs.Prelude.{◌≡◌, false, ◌+◌, ◌≤◌, length, take, drop};
+// Classes of bytes, by comparisons.
+ghost use Rattle.std.specs.Prelude.{◌≡◌, ℕ, Bool, false, ◌+◌, ◌<◌, ◌≤◌, length, take, drop};
 ghost use Rattle.base.specs.Lists.{all, span};
 ghost use Rattle.characters.specs.Class as spec;
 ghost use Rattle.characters.specs.Bare.{bare_length};
@@ -10,44 +10,28 @@ use crate::Class;
 pub(crate) fn within(low: u8, high: u8, b: u8) -> bool
     ensures { result ≡ spec.within low high b }
 {
-    if b < low {
-        return false;
-    }
-    b <= high
+    low <= b && b <= high
 }
 
 fn is_key(b: u8) -> bool
     ensures { result ≡ spec.key_byte b }
 {
-    // 0x20 parts a small letter from its capital.
-    if within(b'a', b'z', b | 0x20) {
-        return true;
-    }
-    if within(b'0', b'9', b) {
-        return true;
-    }
-    b == b'-'
+    // 0x20 parts a small letter from its capital. The parentheses keep the test of letters first, since most bytes are letters.
+    within(b'a', b'z', b | 0x20) || (within(b'0', b'9', b) || b == b'-')
 }
 
+#[tactic(auto, unfolding(crate::specs::Class::group_byte))]
 fn is_group(b: u8) -> bool
     ensures { result ≡ spec.group_byte b }
 {
-    if within(0x20, 0x7e, b) {
-        if b == b'[' {
-            return false;
-        }
-        return b != b']';
-    }
-    false
+    within(0x20, 0x7e, b) && b != b'[' && b != b']'
 }
 
+#[tactic(auto, unfolding(crate::specs::Class::blank_byte))]
 fn is_blank(b: u8) -> bool
     ensures { result ≡ spec.blank_byte b }
 {
-    if b == b' ' {
-        return true;
-    }
-    b == b'\t'
+    b == b' ' || b == b'\t'
 }
 
 pub(crate) fn is_value(b: u8) -> bool
@@ -56,19 +40,11 @@ pub(crate) fn is_value(b: u8) -> bool
     within(0x20, 0x7e, b)
 }
 
+#[tactic(auto, unfolding(crate::specs::Class::text_byte))]
 pub(crate) fn is_text(b: u8) -> bool
     ensures { result ≡ spec.text_byte b }
 {
-    if is_value(b) {
-        return true;
-    }
-    if b == b'\n' {
-        return true;
-    }
-    if b == b'\t' {
-        return true;
-    }
-    b == b'\r'
+    is_value(b) || matches!(b, b'\n' | b'\t' | b'\r')
 }
 
 // Whether a byte is of a class.
@@ -83,47 +59,14 @@ pub fn is_in(k: Class, b: u8) -> bool
     }
 }
 
-// Past the bytes of a key that stand from a place on. Keys have a loop of their own, since every line has one.
-fn key_end(s: &[u8], from: usize) -> usize
-    ensures { result ≡ from + span spec.key_byte (drop from s.now) }
+// Past the bytes from a place on that pass a test. Each test has a loop of its own.
+pub fn past<F: Fn(u8) -> bool>(s: &[u8], from: usize, test: F) -> usize
+    requires { F.IsAlwaysCallable test }
+    ensures { (p : ℕ → Bool) → ((b : ℕ) (r : Bool) → b < 256 → F.post test b r → r ≡ p b) → result ≡ from + span p (drop from s.now) }
 {
     let mut i = from;
-    while i < s.len() {
-        if is_key(s[i]) {
-            i += 1;
-        } else {
-            return i;
-        }
-    }
-    i
-}
-
-// Past the spaces that stand from a place on.
-fn space_end(s: &[u8], from: usize) -> usize
-    ensures { result ≡ from + span spec.space_byte (drop from s.now) }
-{
-    let mut i = from;
-    while i < s.len() {
-        if s[i] == b' ' {
-            i += 1;
-        } else {
-            return i;
-        }
-    }
-    i
-}
-
-// Past the bytes of any class.
-fn class_end(s: &[u8], from: usize, k: Class) -> usize
-    ensures { result ≡ from + span (spec.member k) (drop from s.now) }
-{
-    let mut i = from;
-    while i < s.len() {
-        if is_in(k, s[i]) {
-            i += 1;
-        } else {
-            return i;
-        }
+    while i < s.len() && test(s[i]) {
+        i += 1;
     }
     i
 }
@@ -133,10 +76,10 @@ pub fn span_end(s: &[u8], from: usize, k: Class) -> usize
     ensures { result ≡ from + span (spec.member k) (drop from s.now) }
 {
     match k {
-        Class::Key => key_end(s, from),
-        Class::Space => space_end(s, from),
-        Class::Group => class_end(s, from, k),
-        Class::Blank => class_end(s, from, k),
+        Class::Key => past(s, from, |b| is_key(b)),
+        Class::Space => past(s, from, |b| b == b' '),
+        Class::Group => past(s, from, |b| is_group(b)),
+        Class::Blank => past(s, from, |b| is_blank(b)),
     }
 }
 
@@ -145,38 +88,18 @@ pub(crate) fn plain_16(s: &[u8], i: usize) -> bool
     requires { i + 16 ≤ length s.now }
     ensures { result ≡ all spec.value_byte (take 16 (drop i s.now)) }
 {
-    let mut n: u8 = 0;
-    let mut j: usize = 0;
-    while j < 16 {
-        let b = s[i + j];
-        if b < 0x20 {
-            n = 1;
-            j += 1;
-        } else {
-            if 0x7e < b {
-                n = 1;
-                j += 1;
-            } else {
-                j += 1;
-            }
-        }
+    let mut plain = true;
+    for b in &s[i..i + 16] {
+        plain &= is_value(*b);
     }
-    n == 0
+    plain
 }
 
 // Past the bytes from 0x20 to 0x7E that stand from a place on, one by one.
 fn value_end(s: &[u8], from: usize) -> usize
     ensures { result ≡ from + span spec.value_byte (drop from s.now) }
 {
-    let mut i = from;
-    while i < s.len() {
-        if is_value(s[i]) {
-            i += 1;
-        } else {
-            return i;
-        }
-    }
-    i
+    past(s, from, |b| is_value(b))
 }
 
 // The same where fewer than sixteen bytes are left: the last sixteen are looked at once more, if there are so many.

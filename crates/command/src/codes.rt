@@ -12,14 +12,7 @@ use fault::Fault;
 pub fn one_of(set: &[u8], b: u8) -> bool
     ensures { result ≡ spec.one_of set.now b }
 {
-    let mut i: usize = 0;
-    while i < set.len() {
-        if b == set[i] {
-            return true;
-        }
-        i += 1;
-    }
-    false
+    set.iter().any(|c| b == *c)
 }
 
 // A byte that stands for itself in quotes.

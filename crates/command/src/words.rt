@@ -7,14 +7,7 @@ ghost use Rattle.command.specs.Words as spec;
 fn space_at(s: &[u8], from: usize) -> usize
     ensures { result ≡ from + span spec.not_space (drop from s.now) }
 {
-    let mut i = from;
-    while i < s.len() {
-        if s[i] == b' ' {
-            return i;
-        }
-        i += 1;
-    }
-    i
+    characters::classes::past(s, from, |b| b != b' ')
 }
 
 // Where the word that begins at a place ends: at the next space that stands in no quotes.

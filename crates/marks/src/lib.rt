@@ -4,28 +4,20 @@
 ghost use Rattle.std.specs.Prelude.{◌≡◌, ◌&&◌, ◌+◌, ◌-◌, ◌%◌, ◌≤◌, ◌<◌, length, get_or};
 ghost use Rattle.marks.specs.Marks as spec;
 
-fn wide(b: u8) -> u64
-    ensures { (result ≡ b) × (result < 256) }
-{
-    b as u64
-}
-
 // The four bytes at a place, as a number.
 fn four(x: &[u8], i: usize) -> u64
     requires { i + 4 ≤ length x.now }
     ensures { (result ≡ spec.word_at x.now i) × (result < 4294967296) }
 {
-    wide(x[i]) + 256 * (wide(x[i + 1]) + 256 * (wide(x[i + 2]) + 256 * wide(x[i + 3])))
+    u64::from(x[i])
+        + 256 * (u64::from(x[i + 1]) + 256 * (u64::from(x[i + 2]) + 256 * u64::from(x[i + 3])))
 }
 
 // The byte at a place, 0 past the end.
 fn byte(x: &[u8], i: usize) -> u64
     ensures { (result ≡ get_or x.now i 0) × (result < 256) }
 {
-    if i < x.len() {
-        return wide(x[i]);
-    }
-    0
+    x.get(i).map_or(0, |b| u64::from(*b))
 }
 
 // The last four bytes, or all where there are fewer.
@@ -51,10 +43,10 @@ fn hash(x: &[u8]) -> u64
     ensures { result ≡ spec.name_hash x.now }
 {
     let mut h: u64 = 2166136261;
-    let mut i: usize = 0;
-    while 4 <= x.len() - i {
-        h = hash_word(h, four(x, i));
-        i += 4;
+    let mut rest = x;
+    while let [_, _, _, _, tail @ ..] = rest {
+        h = hash_word(h, four(rest, 0));
+        rest = tail;
     }
     hash_word(h, last(x))
 }
@@ -111,10 +103,7 @@ fn both(marks: &[u64], h: u64, g: u64) -> bool
     requires { 0 < length marks.now }
     ensures { result ≡ (spec.has_bits marks.now h && spec.has_bits marks.now g) }
 {
-    if has(marks, h) {
-        return has(marks, g);
-    }
-    false
+    has(marks, h) && has(marks, g)
 }
 
 // Marks a name under a number, and tells whether its mark was there before.

@@ -1,24 +1,18 @@
--- `codes::one_of` meets its contract: what is left of the set answers as the whole. Assumes nothing.
-use borrow.Author.Rules.{rules}
-use borrow.Author.Tests.{eq-eqb, ne_eqb}
-use mathlib.Core.Path.{refl}
+-- `codes::one_of` meets its contract: a byte of the set is this one. Assumes nothing.
+use Rattle.std.proofs.Common.{rules, tests, ◌≡◌, ◌∙◌, ap, ℕ, Bool, ◌||◌, List, [], ◌∷◌, refl}
+use Rattle.std.proofs.lemmas.Iterator.{YieldsList-from_slice}
+use Rattle.std.proofs.lemmas.Iterator.Search.{any_from_yields_List}
+use Rattle.std.specs.List.{list_any}
+use lib.Dec.{eqb}
 use Rattle.base.specs.Lists.{any}
-use Rattle.base.proofs.Scan.{here, done}
 use Rattle.command.proofs.codes.one_of.Goals as goal
 
-pub returns-then-b-set : goal.returns-then-b-set
+any_same : (p : ℕ → Bool) (s : List ℕ) → list_any p s ≡ any p s
 unfolding any
-returns-then-b-set c =
-    rw (here c.args.set.now c.loop-i.i (search rules), eq-eqb _ _ c.if-b-set.true) at c.loop-i.invariant
-
-pub loop-i-preserved : goal.loop-i-preserved
-unfolding any
-loop-i-preserved c =
-    rw (here c.args.set.now c.loop-i.i (search rules), ne_eqb _ _ c.if-b-set.false) at c.loop-i.invariant
+any_same p [] = refl
+any_same p (b ∷ s) = ap (λ (t : Bool). p b || t) (any_same p s)
 
 pub returns : goal.returns
-unfolding any
-returns c = rw (done c.args.set.now c.loop-i.i c.loop-i-test.false) at c.loop-i.invariant
-
-pub loop-i-init : goal.loop-i-init
-loop-i-init c = refl
+returns c =
+    any_from_yields_List (eqb c.args.b) _ _ c.any.result c.any.ensures.ran (YieldsList-from_slice c.args.set.now cc) (λ x b q k. search (rules, tests))
+    ∙ any_same (eqb c.args.b) c.args.set.now

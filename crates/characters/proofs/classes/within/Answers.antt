@@ -1,9 +1,0 @@
--- `classes::within` meets its contract: the tests that led to each return say which case of the definition holds. Assumes nothing.
-use borrow.Author.Tests.{le-leb, lt-leb}
-use Rattle.characters.proofs.classes.within.Goals as goal
-
-pub returns-then-b-low : goal.returns-then-b-low
-returns-then-b-low c = simp (lt-leb _ _ c.if-b-low.true)
-
-pub returns : goal.returns
-returns c = simp (le-leb _ _ c.if-b-low.false)
