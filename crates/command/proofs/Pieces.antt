@@ -1,6 +1,6 @@
 -- The pieces of an argument and their faults, one after another. Assumes nothing.
-use Rattle.std.specs.Prelude.{Some, None, Ok, Err}
-use mathlib.Core.Path.{◌≡◌, refl, ap, ◌∙◌}
+use Rattle.std.specs.Prelude.{Some, Ok, Err}
+use mathlib.Core.Path.{◌≡◌, refl, sym, ap, ◌∙◌}
 use Prim.Native.Nat.{ℕ, zero, suc, ◌+◌, ◌-◌, ◌≤◌, ◌<◌}
 use native.Mathlib.Nat.{add-zero}
 use native.Mathlib.Omega.{arith}
@@ -11,6 +11,8 @@ use lib.Seq.{drop-drop, drop-nil}
 use Rattle.base.specs.Choice.{pick, maybe}
 use Rattle.base.proofs.Scan.{here, done}
 use Rattle.fault.specs.declared.Fault.{Fault}
+use Rattle.fault.specs.Answer.{unless}
+use Rattle.fault.proofs.Answers.{unless-refused, unless-none}
 use Rattle.command.specs.Command.{takes_next, piece_of, width_of, pieces_after, pieces_of, piece_fault, is_item, pieces_fault}
 use Rattle.command.specs.Step.{see_piece, see_pieces, unless_fault}
 use Rattle.command.specs.declared.Piece.{Piece}
@@ -95,16 +97,16 @@ module _ {q p : Bool} {s : List ℕ} {at : ℕ} {seen₀ : Seen} {i : ℕ} {seen
   checking-end h = rw (← w.faults, ← w.codes, done s i h)
 
   module _ (h : i < length s) {c : ℕ} (e : c ≡ get_or s (i + 1) 0) where
-    pub checking-refused : {f : Fault} → Some f ≡ piece_fault q p seen.taken (get_or s i 0) c (at + i)
+    pub checking-refused : {f : Fault} → Err f ≡ unless (piece_fault q p seen.taken (get_or s i 0) c (at + i))
         → Err f ≡ unless_fault (pieces_fault q p seen₀.taken s 0 at) (see_pieces seen₀ (pieces_of q s))
-    checking-refused r = rw (← w.faults, faults-here q s i h p seen.taken at e refl, ← r)
+    checking-refused {f} r = rw (← w.faults, faults-here q s i h p seen.taken at e refl, unless-refused (piece_fault q p seen.taken (get_or s i 0) c (at + i)) f (sym r))
 
-    pub checking-next : {n : ℕ} {seen₁ : Seen} {x : Piece} → None ≡ piece_fault q p seen.taken (get_or s i 0) c (at + i) → x ≡ piece_of q (get_or s i 0) c → seen₁ ≡ see_piece seen x
+    pub checking-next : {n : ℕ} {seen₁ : Seen} {x : Piece} → Ok tt ≡ unless (piece_fault q p seen.taken (get_or s i 0) c (at + i)) → x ≡ piece_of q (get_or s i 0) c → seen₁ ≡ see_piece seen x
         → n ≡ width_of q (get_or s i 0) → Checking q p s at seen₀ (i + n) seen₁
     unfolding see_pieces
     checking-next {n} {seen₁} {x} r g y f =
         record {
-          faults = rw (y, see-taken seen x, g) (rw (faults-here q s i h p seen.taken at e f, ← r) at w.faults);
+          faults = rw (y, see-taken seen x, g) (rw (faults-here q s i h p seen.taken at e f, unless-none (piece_fault q p seen.taken (get_or s i 0) c (at + i)) r) at w.faults);
           codes = rw (y, g) (rw (pieces-here q s i h e f) at w.codes);
         }
 

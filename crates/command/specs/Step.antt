@@ -1,5 +1,5 @@
 -- What the inner functions of this crate answer, by the definitions of a command. Assumes nothing.
-use Rattle.std.specs.Prelude.{true, false, List, [], ◌∷◌, Option, Some, None, Ok, Err}
+use Rattle.std.specs.Prelude.{true, false, List, [], ◌∷◌, Option, Ok, Err}
 use Rattle.base.specs.Choice.{maybe}
 use Rattle.fault.specs.declared.Fault.{Fault}
 use Rattle.fault.specs.Answer.{Answer}
@@ -8,15 +8,6 @@ use Rattle.command.specs.Command.{Argument, Files, Icon, Text, takes_files, has_
 use Rattle.command.specs.declared.Piece.{Piece}
 use Rattle.command.specs.declared.Piece.TheVariants as piece
 use Rattle.command.specs.declared.Seen.{Seen}
-use Rattle.command.specs.declared.Verdict.{Verdict}
-use Rattle.command.specs.declared.Verdict.TheVariants as verdict
-use Rattle.command.specs.declared.Checked.{Checked}
-use Rattle.command.specs.declared.Checked.TheVariants as checked
-
--- the fault that is told, if any
-abbrev pub fault_in : Verdict → Option Fault
-fault_in verdict.Sound = None
-fault_in (verdict.Refused f) = Some f
 
 -- which codes stand, with one piece more
 abbrev pub see_piece : Seen → Piece → Seen
@@ -41,11 +32,6 @@ see_argument s (Text quoted ps) = see_pieces s ps
 unfoldable pub see_arguments : Seen → List Argument → Seen
 see_arguments s [] = s
 see_arguments s (a ∷ more) = see_arguments (see_argument s a) more
-
--- what a check says
-abbrev pub checked_as : Checked → Answer Seen
-checked_as (checked.Sound s) = Ok s
-checked_as (checked.Refused f) = Err f
 
 -- a fault, or which codes then stand
 abbrev pub unless_fault : Option Fault → Seen → Answer Seen

@@ -1,11 +1,11 @@
 // Bytes of arguments and field codes.
 ghost use Rattle.std.specs.Prelude.{◌≡◌};
 ghost use Rattle.base.specs.Choice.{pick};
+ghost use Rattle.fault.specs.Answer.{unless};
 ghost use Rattle.command.specs.Codes as spec;
 ghost use Rattle.command.specs.Command as command;
-ghost use Rattle.command.specs.Step.{fault_in};
 
-use crate::{Piece, Verdict};
+use crate::Piece;
 use fault::Fault;
 
 // Whether a byte is one of these.
@@ -152,23 +152,31 @@ pub fn width_of(quoted: bool, b: u8) -> usize
 }
 
 // Whether it may stand at this place.
-pub fn piece_fault(quoted: bool, program: bool, taken: bool, b: u8, c: u8, at: usize) -> Verdict
-    ensures { fault_in result ≡ command.piece_fault quoted program taken b c at }
+#[tactic(auto, unfolding(crate::specs::Command::piece_fault))]
+pub fn piece_fault(
+    quoted: bool,
+    program: bool,
+    taken: bool,
+    b: u8,
+    c: u8,
+    at: usize,
+) -> Result<(), Fault>
+    ensures { result ≡ unless (command.piece_fault quoted program taken b c at) }
 {
     if b == b'%' {
         if code_in(quoted, program, taken, c) {
-            return Verdict::Sound;
+            return Ok(());
         }
-        return Verdict::Refused(Fault::BadCode { at });
+        return Err(Fault::BadCode { at });
     }
     if takes_next(quoted, b) {
         if needs_backslash(c) {
-            return Verdict::Sound;
+            return Ok(());
         }
-        return Verdict::Refused(Fault::BadExec { at });
+        return Err(Fault::BadExec { at });
     }
     if stands_in(quoted, program, b) {
-        return Verdict::Sound;
+        return Ok(());
     }
-    Verdict::Refused(Fault::BadExec { at })
+    Err(Fault::BadExec { at })
 }

@@ -31,13 +31,6 @@ pub enum Form {
     Bare,
 }
 
-// Whether a piece may stand where it does.
-#[derive(Clone, Copy)]
-pub enum Verdict {
-    Sound,
-    Refused(Fault),
-}
-
 // Which codes stand in a command: one that takes files, f or u, c, i.
 #[derive(Clone, Copy)]
 pub struct Seen {
@@ -45,13 +38,6 @@ pub struct Seen {
     pub item: bool,
     pub name: bool,
     pub icon: bool,
-}
-
-// A check's answer: which codes stand, or the fault of the lowest place.
-#[derive(Clone, Copy)]
-pub enum Checked {
-    Sound(Seen),
-    Refused(Fault),
 }
 
 // Whether a word is `%` and one byte more.
@@ -108,15 +94,9 @@ fn see(seen: Seen, p: Piece) -> Seen
         Piece::Item => Seen {
             taken: true,
             item: true,
-            name: seen.name,
-            icon: seen.icon,
+            ..seen
         },
-        Piece::Name => Seen {
-            taken: seen.taken,
-            item: seen.item,
-            name: true,
-            icon: seen.icon,
-        },
+        Piece::Name => Seen { name: true, ..seen },
         Piece::Byte(_) => seen,
         Piece::Location => seen,
         Piece::Vanished => seen,
@@ -124,9 +104,9 @@ fn see(seen: Seen, p: Piece) -> Seen
 }
 
 // The pieces of bytes that stand at a place: which codes stand with them, or their first fault.
-fn check_pieces(s: &[u8], at: usize, quoted: bool, program: bool, seen: Seen) -> Checked
+fn check_pieces(s: &[u8], at: usize, quoted: bool, program: bool, seen: Seen) -> Result<Seen, Fault>
     requires { at + length s.now ≤ file_most }
-    ensures { step.checked_as result ≡ step.unless_fault (command.pieces_fault quoted program seen.taken s.now 0 at)
+    ensures { result ≡ step.unless_fault (command.pieces_fault quoted program seen.taken s.now 0 at)
         (step.see_pieces seen (command.pieces_of quoted s.now)) }
 {
     let mut i: usize = 0;
@@ -135,15 +115,11 @@ fn check_pieces(s: &[u8], at: usize, quoted: bool, program: bool, seen: Seen) ->
         let b = s[i];
         let c = line::byte_at(s, i + 1);
         let taken = known.taken;
-        match codes::piece_fault(quoted, program, taken, b, c, at + i) {
-            Verdict::Refused(f) => return Checked::Refused(f),
-            Verdict::Sound => {
-                known = see(known, codes::piece_of(quoted, b, c));
-                i += codes::width_of(quoted, b);
-            }
-        }
+        codes::piece_fault(quoted, program, taken, b, c, at + i)?;
+        known = see(known, codes::piece_of(quoted, b, c));
+        i += codes::width_of(quoted, b);
     }
-    Checked::Sound(known)
+    Ok(known)
 }
 
 // Whether a word of so many bytes, of them so many in quotes, is not closed or an empty program.
@@ -161,68 +137,55 @@ fn is_unfit(program: bool, size: usize, n: usize) -> bool
 }
 
 // A quoted word.
-fn check_quoted(word: &[u8], start: usize, program: bool, seen: Seen) -> Checked
+fn check_quoted(word: &[u8], start: usize, program: bool, seen: Seen) -> Result<Seen, Fault>
     requires { (start + length word.now ≤ file_most) × (0 < length word.now) }
-    ensures { step.checked_as result ≡ step.unless_fault (command.quoted_fault program seen.taken (record { start = start; bytes = word.now }))
+    ensures { result ≡ step.unless_fault (command.quoted_fault program seen.taken (record { start = start; bytes = word.now }))
         (step.see_pieces seen (command.pieces_of true (command.inside word.now))) }
 {
     let closing = characters::classes::bare_end(word, 1, b'"');
     let n = closing - 1;
     if is_unfit(program, word.len(), n) {
-        return Checked::Refused(Fault::BadExec { at: start });
+        return Err(Fault::BadExec { at: start });
     }
-    match check_pieces(&word[1..closing], start + 1, true, program, seen) {
-        Checked::Refused(f) => Checked::Refused(f),
-        Checked::Sound(known) => {
-            if word.len() == n + 2 {
-                return Checked::Sound(known);
-            }
-            Checked::Refused(Fault::BadExec { at: start + n + 2 })
-        }
+    let known = check_pieces(&word[1..closing], start + 1, true, program, seen)?;
+    if word.len() != n + 2 {
+        return Err(Fault::BadExec { at: start + n + 2 });
     }
+    Ok(known)
 }
 
 // A word that starts at a place: which codes stand with it, or its first fault.
-fn check_word(word: &[u8], start: usize, program: bool, seen: Seen) -> Checked
+#[tactic(auto, unfolding(crate::specs::Command::word_fault, crate::specs::Command::argument_of))]
+fn check_word(word: &[u8], start: usize, program: bool, seen: Seen) -> Result<Seen, Fault>
     requires { (start + length word.now ≤ file_most) × (0 < length word.now) }
-    ensures { step.checked_as result ≡ step.unless_fault (command.word_fault program seen.taken (record { start = start; bytes = word.now }))
+    ensures { result ≡ step.unless_fault (command.word_fault program seen.taken (record { start = start; bytes = word.now }))
         (step.see_argument seen (command.argument_of (record { start = start; bytes = word.now }))) }
 {
     match form_of(word) {
         Form::Quoted => check_quoted(word, start, program, seen),
         Form::Files => {
-            if program {
-                return Checked::Refused(Fault::BadCode { at: start });
+            if program || seen.taken {
+                return Err(Fault::BadCode { at: start });
             }
-            if seen.taken {
-                return Checked::Refused(Fault::BadCode { at: start });
-            }
-            Checked::Sound(Seen {
+            Ok(Seen {
                 taken: true,
-                item: seen.item,
-                name: seen.name,
-                icon: seen.icon,
+                ..seen
             })
         }
         Form::Icon => {
             if program {
-                return Checked::Refused(Fault::BadCode { at: start });
+                return Err(Fault::BadCode { at: start });
             }
-            Checked::Sound(Seen {
-                taken: seen.taken,
-                item: seen.item,
-                name: seen.name,
-                icon: true,
-            })
+            Ok(Seen { icon: true, ..seen })
         }
         Form::Bare => check_pieces(word, start, false, program, seen),
     }
 }
 
 // An unescaped Exec: which codes stand in it, or its fault of the lowest place.
-pub fn check_command(exec: &[u8]) -> Checked
+pub fn check_command(exec: &[u8]) -> Result<Seen, Fault>
     requires { length exec.now ≤ file_most }
-    ensures { step.checked_as result ≡ then step.codes_in (command.read_command exec.now) }
+    ensures { result ≡ then step.codes_in (command.read_command exec.now) }
 {
     let mut i: usize = 0;
     let mut program = true;
@@ -237,18 +200,13 @@ pub fn check_command(exec: &[u8]) -> Checked
             i += 1;
         } else {
             let e = words::word_end(exec, i);
-            match check_word(&exec[i..e], i, program, seen) {
-                Checked::Refused(f) => return Checked::Refused(f),
-                Checked::Sound(known) => {
-                    seen = known;
-                    program = false;
-                    i = e;
-                }
-            }
+            seen = check_word(&exec[i..e], i, program, seen)?;
+            program = false;
+            i = e;
         }
     }
     if program {
-        return Checked::Refused(Fault::BadExec { at: 0 });
+        return Err(Fault::BadExec { at: 0 });
     }
-    Checked::Sound(seen)
+    Ok(seen)
 }

@@ -19,7 +19,7 @@ ghost use Rattle.run.specs.Run as run;
 ghost use Rattle.exec.specs.Expand as spec;
 ghost use Rattle.run.specs.Step.{items_in};
 
-use command::{Checked, Seen};
+use command::Seen;
 use fault::Fault;
 use record::Bounds;
 
@@ -127,8 +127,8 @@ pub fn expand_group(
     let mut exec = [0u8; base::FILE_MOST];
     let exec_end = texts::read_whole(&file[row.value..row.end], &mut exec)?;
     match command::check_command(&exec[..exec_end]) {
-        Checked::Refused(f) => Err(f),
-        Checked::Sound(seen) => run_command(
+        Err(f) => Err(f),
+        Ok(seen) => run_command(
             &exec[..exec_end],
             seen,
             file,

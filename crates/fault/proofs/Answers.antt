@@ -27,6 +27,10 @@ pub unless-refused : (o : Option Fault) (f : Fault) → unless o ≡ Err f → o
 unless-refused None f e = no (cc)
 unless-refused (Some g) f e = cc
 
+pub unless-none : (o : Option Fault) → Ok tt ≡ unless o → o ≡ None
+unless-none None e = refl
+unless-none (Some f) e = no (cc)
+
 -- what was given is one thing
 pub given_is : {A : Type 0} (a b : A) → ◌≡◌ {A = Answer A} (Ok a) (Ok b) → a ≡ b
 given_is a b e = cc

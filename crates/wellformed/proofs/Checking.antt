@@ -1,5 +1,5 @@
 -- The first pass over a file: after some rows, what the titles seen, the rows before and the marks tell of each other. Assumes nothing.
-use Rattle.std.specs.Prelude.{Option, Some, None, Ok, Err}
+use Rattle.std.specs.Prelude.{Some, None, Ok, Err}
 use mathlib.Core.Path.{◌≡◌, refl, sym, ap, ◌∙◌}
 use Prim.Native.Nat.{ℕ, ◌+◌, ◌%◌, ◌≤◌, ◌<◌}
 use native.Mathlib.Omega.{arith}
@@ -14,7 +14,7 @@ use Rattle.base.proofs.Tests.{no, by-test}
 use Rattle.fault.specs.declared.Fault.{Fault}
 use Rattle.fault.specs.declared.Fault.TheVariants.{FirstGroup, RepeatedGroup, RepeatedKey}
 use Rattle.fault.specs.Answer.{need, unless}
-use Rattle.fault.proofs.Answers.{unless-refused}
+use Rattle.fault.proofs.Answers.{unless-refused, unless-none}
 use Rattle.line.specs.Line.{read_line, is_bad}
 use Rattle.line.specs.declared.Line.{Line}
 use Rattle.line.specs.declared.Line.TheVariants.{Blank, Comment, Header, Entry, Bad}
@@ -39,11 +39,6 @@ told_none false f = refl
 told-some : (b : Bool) (f : Fault) → unless (pick b (Some f) None) ≡ need (not b) f
 told-some true f = refl
 told-some false f = refl
-
--- no fault
-unless-none : (o : Option Fault) → Ok tt ≡ unless o → o ≡ None
-unless-none None e = refl
-unless-none (Some f) e = no (cc)
 
 -- a title without fault is new, and the first is no key's
 fault-new : (leading : List ℕ) (seen : List Title) (t : Title) (n : ℕ) (again : Fault) → title_fault leading seen t n again ≡ None → any (same_title t) seen ≡ false

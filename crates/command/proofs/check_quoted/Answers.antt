@@ -1,9 +1,9 @@
 -- `check_quoted` meets its contract: the calls that led to each return say which answer the definition has. Assumes nothing.
 use native.Mathlib.Omega.{arith}
-use mathlib.Core.Path.{sym, ap, ◌∙◌}
+use mathlib.Core.Path.{sym, ◌∙◌}
 use borrow.Author.Tests.{eq-eqb, ne_eqb}
+use Rattle.std.proofs.lemmas.Result.{err_from_is_err_and}
 use Rattle.base.proofs.Lists.{length_part}
-use Rattle.command.specs.Step.{checked_as}
 use Rattle.command.proofs.Parting.{quote-ends}
 use Rattle.command.proofs.Checks.{quoted-unfit, quoted-refused, quoted-sound, quoted-behind}
 use borrow.Author.Rules.{rules}
@@ -28,22 +28,20 @@ pub overflow_add-n : goal.overflow_add-n
 overflow_add-n c =
     omega (arith, quote-ends c.args.word.now (search rules) c.bare_end-closing.ensures)
 
-pub returns-then-word-n : goal.returns-then-word-n
-returns-then-word-n c =
-    quoted-sound c.args.program c.args.seen.taken c.args.start c.args.word.now c.args.seen (omega (arith, c.bare_end-closing.ensures)) (sym c.is_unfit.ensures ∙ c.if-is_unfit.false) (sym (ap checked_as c.in-Sound.is) ∙ c.check_pieces.ensures) (eq-eqb _ _ c.if-word-n.true)
+pub returns : goal.returns
+returns c =
+    quoted-sound c.args.program c.args.seen.taken c.args.start c.args.word.now c.args.seen (omega (arith, c.bare_end-closing.ensures)) (sym c.is_unfit.ensures ∙ c.if-is_unfit.false) (sym c.in_ok-known.was ∙ c.check_pieces.ensures) (eq-eqb _ _ c.if-word-n.false)
 
 pub overflow_add-result : goal.overflow_add-result
 overflow_add-result c =
     omega (arith, quote-ends c.args.word.now (search rules) c.bare_end-closing.ensures)
 
-pub overflow_add-result-in-Sound : goal.overflow_add-result-in-Sound
-overflow_add-result-in-Sound c =
-    omega (arith, quote-ends c.args.word.now (search rules) c.bare_end-closing.ensures)
+pub returns-in_err-known : goal.returns-in_err-known
+returns-in_err-known c =
+    let p = err_from_is_err_and c.from_residual.result c.from_residual.ensures.1 in
+    rw (p.1, p.2)
+    (quoted-refused c.args.program c.args.seen.taken c.args.start c.args.word.now c.args.seen (omega (arith, c.bare_end-closing.ensures)) (sym c.is_unfit.ensures ∙ c.if-is_unfit.false) (sym c.in_err-known.was ∙ c.check_pieces.ensures))
 
-pub returns-in-Refused : goal.returns-in-Refused
-returns-in-Refused c =
-    quoted-refused c.args.program c.args.seen.taken c.args.start c.args.word.now c.args.seen (omega (arith, c.bare_end-closing.ensures)) (sym c.is_unfit.ensures ∙ c.if-is_unfit.false) (sym (ap checked_as c.in-Refused.is) ∙ c.check_pieces.ensures)
-
-pub returns-else-word-n : goal.returns-else-word-n
-returns-else-word-n c =
-    quoted-behind c.args.program c.args.seen.taken c.args.start c.args.word.now c.args.seen (omega (arith, c.bare_end-closing.ensures)) (sym c.is_unfit.ensures ∙ c.if-is_unfit.false) (sym (ap checked_as c.in-Sound.is) ∙ c.check_pieces.ensures) (ne_eqb _ _ c.if-word-n.false)
+pub returns-then-word-n : goal.returns-then-word-n
+returns-then-word-n c =
+    quoted-behind c.args.program c.args.seen.taken c.args.start c.args.word.now c.args.seen (omega (arith, c.bare_end-closing.ensures)) (sym c.is_unfit.ensures ∙ c.if-is_unfit.false) (sym c.in_ok-known.was ∙ c.check_pieces.ensures) (ne_eqb _ _ c.if-word-n.true)

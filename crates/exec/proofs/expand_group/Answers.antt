@@ -1,11 +1,10 @@
 -- `expand_group` meets its contract: the calls that led to each return say which answer the definition has. Assumes nothing.
 use native.Mathlib.Omega.{arith}
-use mathlib.Core.Path.{sym, ap, ◌∙◌}
+use mathlib.Core.Path.{sym, ◌∙◌}
 use Rattle.std.proofs.lemmas.Result.{err_from_is_err_and}
 use lib.Seq.{length-take-le}
 use Rattle.base.specs.Lists.{ascii}
 use Rattle.rows.specs.Title.{Key}
-use Rattle.command.specs.Step.{checked_as}
 use Rattle.run.specs.Step.{items_in}
 use Rattle.exec.proofs.Values.{key-value, value-short, text-given}
 use Rattle.exec.proofs.Expanding.{refused-leaves, group-missing, group-unread, group-short, group-wrong, group-right}
@@ -56,8 +55,8 @@ check_command-requires c =
     let w = key-value a.file.now (Key a.group.now (ascii "Exec")) (sym c.find_key.ensures ∙ c.in-Some.is) in
     omega (arith, group-short a.file.now a.group.now a.locale.now a.location.now (items_in a.list.now) a.run w (text-given w (rw c.in_ok-exec_end.was at c.read_whole.ensures)).0)
 
-pub slice_bounds-exec-end-in-Sound : goal.slice_bounds-exec-end-in-Sound
-slice_bounds-exec-end-in-Sound c =
+pub slice_bounds-exec-end-in-Ok : goal.slice_bounds-exec-end-in-Ok
+slice_bounds-exec-end-in-Ok c =
     let a = c.args in
     let w = key-value a.file.now (Key a.group.now (ascii "Exec")) (sym c.find_key.ensures ∙ c.in-Some.is) in
     (text-given w (rw c.in_ok-exec_end.was at c.read_whole.ensures)).1
@@ -70,19 +69,19 @@ run_command-requires c =
     let a = c.args in
     let w = key-value a.file.now (Key a.group.now (ascii "Exec")) (sym c.find_key.ensures ∙ c.in-Some.is) in
     let t = text-given w (rw c.in_ok-exec_end.was at c.read_whole.ensures) in
-    (omega (arith, c.requires.1, group-short a.file.now a.group.now a.locale.now a.location.now (items_in a.list.now) a.run w t.0), (group-right a.file.now a.group.now a.locale.now a.location.now (items_in a.list.now) a.run w t.0 (sym (ap checked_as c.in-Sound.is) ∙ c.check_command.ensures)).1, c.requires.0, c.requires.1, c.requires.2, c.requires.3, c.requires.4)
+    (omega (arith, c.requires.1, group-short a.file.now a.group.now a.locale.now a.location.now (items_in a.list.now) a.run w t.0), (group-right a.file.now a.group.now a.locale.now a.location.now (items_in a.list.now) a.run w t.0 (sym c.in-Ok.is ∙ c.check_command.ensures)).1, c.requires.0, c.requires.1, c.requires.2, c.requires.3, c.requires.4)
 
-pub returns-in-Refused : goal.returns-in-Refused
-returns-in-Refused c =
+pub returns-in-Err : goal.returns-in-Err
+returns-in-Err c =
     let a = c.args in
     let w = key-value a.file.now (Key a.group.now (ascii "Exec")) (sym c.find_key.ensures ∙ c.in-Some.is) in
-    refused-leaves a.out.now (group-wrong a.file.now a.group.now a.locale.now a.location.now (items_in a.list.now) a.run w (text-given w (rw c.in_ok-exec_end.was at c.read_whole.ensures)).0 (sym (ap checked_as c.in-Refused.is) ∙ c.check_command.ensures))
+    refused-leaves a.out.now (group-wrong a.file.now a.group.now a.locale.now a.location.now (items_in a.list.now) a.run w (text-given w (rw c.in_ok-exec_end.was at c.read_whole.ensures)).0 (sym c.in-Err.is ∙ c.check_command.ensures))
 
-pub returns-in-Sound : goal.returns-in-Sound
-returns-in-Sound c =
+pub returns-in-Ok : goal.returns-in-Ok
+returns-in-Ok c =
     let a = c.args in
     let w = key-value a.file.now (Key a.group.now (ascii "Exec")) (sym c.find_key.ensures ∙ c.in-Some.is) in
-    rw (group-right a.file.now a.group.now a.locale.now a.location.now (items_in a.list.now) a.run w (text-given w (rw c.in_ok-exec_end.was at c.read_whole.ensures)).0 (sym (ap checked_as c.in-Sound.is) ∙ c.check_command.ensures)).0 c.run_command.ensures
+    rw (group-right a.file.now a.group.now a.locale.now a.location.now (items_in a.list.now) a.run w (text-given w (rw c.in_ok-exec_end.was at c.read_whole.ensures)).0 (sym c.in-Ok.is ∙ c.check_command.ensures)).0 c.run_command.ensures
 
 pub slice_bounds-read_whole-start : goal.slice_bounds-read_whole-start
 slice_bounds-read_whole-start c =
