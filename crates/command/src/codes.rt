@@ -8,7 +8,7 @@ ghost use Rattle.command.specs.Command as command;
 use crate::Piece;
 use fault::Fault;
 
-// Whether a byte is one of these.
+// Whether a byte is one of these. The sets are short and constant: `any` is compiled for each, where `contains` would be a call.
 pub fn one_of(set: &[u8], b: u8) -> bool
     ensures { result ≡ spec.one_of set.now b }
 {

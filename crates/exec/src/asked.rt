@@ -13,34 +13,23 @@ use record::{Front, HEAD};
 fn no_zero(s: &[u8]) -> bool
     ensures { result ≡ spec.no_zero s.now }
 {
-    let mut i: usize = 0;
-    while i < s.len() {
-        if s[i] == 0 {
-            return false;
-        }
-        i += 1;
-    }
-    true
+    !s.contains(&0)
 }
 
 // A list item that is fit.
+#[tactic(auto, unfolding(crate::specs::Expand::fit_item))]
 fn is_fit_item(s: &[u8]) -> bool
     ensures { result ≡ spec.fit_item s.now }
 {
-    if s.len() == 0 {
-        return false;
-    }
-    no_zero(s)
+    !s.is_empty() && no_zero(s)
 }
 
 // A location that is fit.
+#[tactic(auto, unfolding(crate::specs::Expand::fit_location))]
 pub fn is_fit_location(s: &[u8]) -> bool
     ensures { result ≡ spec.fit_location s.now }
 {
-    if base::LOCATION_MOST < s.len() {
-        return false;
-    }
-    no_zero(s)
+    s.len() <= base::LOCATION_MOST && no_zero(s)
 }
 
 // Whether all items of a list are fit.

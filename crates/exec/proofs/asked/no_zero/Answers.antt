@@ -1,25 +1,23 @@
--- `asked::no_zero` meets its contract: what is left of the bytes answers as all. Assumes nothing.
-use borrow.Author.Rules.{rules}
-use borrow.Author.Tests.{eq-eqb, ne_eqb}
-use mathlib.Core.Path.{refl}
+-- `asked::no_zero` meets its contract: no byte is 0 just where every byte is another. Assumes nothing.
+use mathlib.Core.Path.{◌≡◌, refl, ap, ◌∙◌}
+use mathlib.Core.Bool.{Bool, true, false, not, ◌&&◌, ◌||◌}
+use mathlib.Core.List.{List, [], ◌∷◌}
+use Prim.Native.Nat.{ℕ}
+use lib.Dec.{eqb}
+use Rattle.std.specs.List.{list_any}
 use Rattle.base.specs.Lists.{all}
-use Rattle.base.proofs.Scan.{here, done}
 use Rattle.exec.specs.Expand.{no_zero}
 use Rattle.exec.proofs.asked.no_zero.Goals as goal
 
-pub loop-i-init : goal.loop-i-init
-loop-i-init c = refl
-
-pub returns-then-s-i-eq0 : goal.returns-then-s-i-eq0
-unfolding no_zero all
-returns-then-s-i-eq0 c =
-    rw (here c.args.s.now c.loop-i.i (search rules), eq-eqb _ _ c.if-s-i-eq0.true) at c.loop-i.invariant
-
-pub loop-i-preserved : goal.loop-i-preserved
-unfolding no_zero all
-loop-i-preserved c =
-    rw (here c.args.s.now c.loop-i.i (search rules), ne_eqb _ _ c.if-s-i-eq0.false) at c.loop-i.invariant
+none_zero : (s : List ℕ) → not (list_any (λ b. eqb b 0) s) ≡ all (λ b. not (eqb b 0)) s
+unfolding all
+none_zero [] = refl
+none_zero (b ∷ s) = go (eqb b 0) (none_zero s)
+  where
+    go : (t : Bool) → not (list_any (λ b. eqb b 0) s) ≡ all (λ b. not (eqb b 0)) s → not (t || list_any (λ b. eqb b 0) s) ≡ (not t && all (λ b. not (eqb b 0)) s)
+    go true e = refl
+    go false e = e
 
 pub returns : goal.returns
-unfolding no_zero all
-returns c = rw (done c.args.s.now c.loop-i.i c.loop-i-test.false) at c.loop-i.invariant
+unfolding no_zero
+returns c = ap not c.contains.ensures.value ∙ none_zero c.args.s.now
