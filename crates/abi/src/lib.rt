@@ -73,7 +73,7 @@ pub fn tell_written(
             *written = n as u64;
             0
         }
-        Err(f) => refuse(f, place, byte),
+        Err(refusal) => refuse(refusal, place, byte),
     }
 }
 

@@ -15,18 +15,14 @@ pub fn actions(file: &[u8], locale: &[u8], out: &mut [u8]) -> Result<usize, Faul
     ensures answer { result ≡ written_length (spec.actions file.now locale.now) out.old }
     ensures output { out.new ≡ held (spec.actions file.now locale.now) out.old }
 {
-    match wellformed::check(file) {
-        Err(f) => Err(f),
-        Ok(()) => {
-            if line::form::is_locale(locale) {
-                let raw = listed::value(file);
-                // No room is asked for: this tells whether the list's escapes are right.
-                text::list::room_after(raw, 0)?;
-                return labels::write_all(file, raw, locale, out);
-            }
-            Err(Fault::BadArgument)
-        }
+    wellformed::check(file)?;
+    if !line::form::is_locale(locale) {
+        return Err(Fault::BadArgument);
     }
+    let raw = listed::value(file);
+    // No room is asked for: this tells whether the list's escapes are right.
+    text::list::room_after(raw, 0)?;
+    labels::write_all(file, raw, locale, out)
 }
 
 // The arguments of a run of an action's own Exec as records of kind 3: what every expansion asks, Actions' 9, 8 for an action that is not listed, then
@@ -43,16 +39,12 @@ pub fn expand_action(
     ensures answer { result ≡ written_length (spec.expand_action file.now action.now locale.now location.now list.now run) out.old }
     ensures output { out.new ≡ held (spec.expand_action file.now action.now locale.now location.now list.now run) out.old }
 {
-    match exec::ask(file, locale, location, list) {
-        Err(f) => Err(f),
-        Ok(count) => {
-            let raw = listed::value(file);
-            text::list::room_after(raw, 0)?;
-            let group = listed::group_asked(file, raw, action);
-            if group.len() == 0 {
-                return Err(Fault::Missing);
-            }
-            exec::expand_group(file, group, locale, location, list, count, run, out)
-        }
+    let count = exec::ask(file, locale, location, list)?;
+    let ids = listed::value(file);
+    text::list::room_after(ids, 0)?;
+    let group = listed::group_asked(file, ids, action);
+    if group.is_empty() {
+        return Err(Fault::Missing);
     }
+    exec::expand_group(file, group, locale, location, list, count, run, out)
 }

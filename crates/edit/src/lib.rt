@@ -233,10 +233,8 @@ fn request(
         (by (Person person) (target.request_by op group.now key.now text.now)))
         result file.new journal.new }
 {
-    match check_lent(file, size, journal, used, standing) {
-        Err(f) => Err(f),
-        Ok(()) => carry_out(file, size, journal, standing, person, op, group, key, text),
-    }
+    check_lent(file, size, journal, used, standing)?;
+    carry_out(file, size, journal, standing, person, op, group, key, text)
 }
 
 // A person sets a key with its postfix in a group to a text: its value is replaced, or a new entry comes behind the group's last.
@@ -401,24 +399,20 @@ fn turn(
         (step.undo_or_redo way (calls.lent file.old size journal.now used standing))
         result file.new journal.now }
 {
-    match check_file(file, size, journal, used, standing) {
-        Err(f) => Err(f),
-        Ok(()) => {
-            let edits = &journal[..used];
-            let Record {
-                start,
-                place,
-                old,
-                new,
-                end,
-            } = journal::next_on(edits, standing, way)?;
-            let older = Part { from: old, to: new };
-            let newer = Part { from: new, to: end };
-            match way {
-                Way::Undo => again(file, size, edits, used, start, place, newer, older),
-                Way::Redo => again(file, size, edits, used, end, place, older, newer),
-            }
-        }
+    check_file(file, size, journal, used, standing)?;
+    let edits = &journal[..used];
+    let Record {
+        start,
+        place,
+        old,
+        new,
+        end,
+    } = journal::next_on(edits, standing, way)?;
+    let older = Part { from: old, to: new };
+    let newer = Part { from: new, to: end };
+    match way {
+        Way::Undo => again(file, size, edits, used, start, place, newer, older),
+        Way::Redo => again(file, size, edits, used, end, place, older, newer),
     }
 }
 

@@ -126,21 +126,11 @@ pub fn expand_group(
     };
     let mut exec = [0u8; base::FILE_MOST];
     let exec_end = texts::read_whole(&file[row.value..row.end], &mut exec)?;
-    match command::check_command(&exec[..exec_end]) {
-        Err(f) => Err(f),
-        Ok(seen) => run_command(
-            &exec[..exec_end],
-            seen,
-            file,
-            group,
-            locale,
-            location,
-            list,
-            count,
-            run,
-            out,
-        ),
-    }
+    let exec = &exec[..exec_end];
+    let seen = command::check_command(exec)?;
+    run_command(
+        exec, seen, file, group, locale, location, list, count, run, out,
+    )
 }
 
 // The arguments of a run of a file's Exec as records of kind 3: 1 to 6, 14, 7, 10, 8, 9, 15 and 16 by lowest place, 8 for the run, the refusals of
@@ -156,19 +146,15 @@ pub fn expand(
     ensures answer { result ≡ written_length (spec.expand file.now locale.now location.now list.now run) out.old }
     ensures output { out.new ≡ held (spec.expand file.now locale.now location.now list.now run) out.old }
 {
-    match ask(file, locale, location, list) {
-        Err(f) => Err(f),
-        Ok(count) => {
-            expand_group(
-                file,
-                b"Desktop Entry",
-                locale,
-                location,
-                list,
-                count,
-                run,
-                out,
-            )
-        }
-    }
+    let count = ask(file, locale, location, list)?;
+    expand_group(
+        file,
+        b"Desktop Entry",
+        locale,
+        location,
+        list,
+        count,
+        run,
+        out,
+    )
 }

@@ -1,7 +1,7 @@
 -- `expand_group` meets its contract: the calls that led to each return say which answer the definition has. Assumes nothing.
 use native.Mathlib.Omega.{arith}
 use mathlib.Core.Path.{sym, ◌∙◌}
-use Rattle.std.proofs.lemmas.Result.{err_from_is_err_and}
+use Rattle.fault.proofs.Answers.{handed-on}
 use lib.Seq.{length-take-le}
 use Rattle.base.specs.Lists.{ascii}
 use Rattle.rows.specs.Title.{Key}
@@ -37,8 +37,7 @@ pub returns-in_err-exec_end : goal.returns-in_err-exec_end
 returns-in_err-exec_end c =
     let a = c.args in
     let w = key-value a.file.now (Key a.group.now (ascii "Exec")) (sym c.find_key.ensures ∙ c.in-Some.is) in
-    let p = err_from_is_err_and c.from_residual.result c.from_residual.ensures.1 in
-    rw (p.1, p.2) (refused-leaves a.out.now (group-unread a.file.now a.group.now a.locale.now a.location.now (items_in a.list.now) a.run w (rw c.in_err-exec_end.was at c.read_whole.ensures)))
+    rw (handed-on _ c.from_residual.ensures.1) (refused-leaves a.out.now (group-unread a.file.now a.group.now a.locale.now a.location.now (items_in a.list.now) a.run w (rw c.in_err-exec_end.was at c.read_whole.ensures)))
 
 pub slice_bounds-exec-end : goal.slice_bounds-exec-end
 slice_bounds-exec-end c =
@@ -46,42 +45,30 @@ slice_bounds-exec-end c =
     let w = key-value a.file.now (Key a.group.now (ascii "Exec")) (sym c.find_key.ensures ∙ c.in-Some.is) in
     (text-given w (rw c.in_ok-exec_end.was at c.read_whole.ensures)).1
 
-pub slice_bounds-check_command-end : goal.slice_bounds-check_command-end
-slice_bounds-check_command-end c = sym (length-take-le _ _ ((let w = key-value c.args.file.now (Key c.args.group.now (ascii "Exec")) (sym c.find_key.ensures ∙ c.in-Some.is) in (text-given w (rw c.in_ok-exec_end.was at c.read_whole.ensures)).1)))
-
 pub check_command-requires : goal.check_command-requires
 check_command-requires c =
     let a = c.args in
     let w = key-value a.file.now (Key a.group.now (ascii "Exec")) (sym c.find_key.ensures ∙ c.in-Some.is) in
     omega (arith, group-short a.file.now a.group.now a.locale.now a.location.now (items_in a.list.now) a.run w (text-given w (rw c.in_ok-exec_end.was at c.read_whole.ensures)).0)
 
-pub slice_bounds-exec-end-in-Ok : goal.slice_bounds-exec-end-in-Ok
-slice_bounds-exec-end-in-Ok c =
-    let a = c.args in
-    let w = key-value a.file.now (Key a.group.now (ascii "Exec")) (sym c.find_key.ensures ∙ c.in-Some.is) in
-    (text-given w (rw c.in_ok-exec_end.was at c.read_whole.ensures)).1
-
-pub slice_bounds-run_command-end : goal.slice_bounds-run_command-end
-slice_bounds-run_command-end c = sym (length-take-le _ _ ((let w = key-value c.args.file.now (Key c.args.group.now (ascii "Exec")) (sym c.find_key.ensures ∙ c.in-Some.is) in (text-given w (rw c.in_ok-exec_end.was at c.read_whole.ensures)).1)))
-
 pub run_command-requires : goal.run_command-requires
 run_command-requires c =
     let a = c.args in
     let w = key-value a.file.now (Key a.group.now (ascii "Exec")) (sym c.find_key.ensures ∙ c.in-Some.is) in
     let t = text-given w (rw c.in_ok-exec_end.was at c.read_whole.ensures) in
-    (omega (arith, c.requires.1, group-short a.file.now a.group.now a.locale.now a.location.now (items_in a.list.now) a.run w t.0), (group-right a.file.now a.group.now a.locale.now a.location.now (items_in a.list.now) a.run w t.0 (sym c.in-Ok.is ∙ c.check_command.ensures)).1, c.requires.0, c.requires.1, c.requires.2, c.requires.3, c.requires.4)
+    (omega (arith, c.requires.1, group-short a.file.now a.group.now a.locale.now a.location.now (items_in a.list.now) a.run w t.0), (group-right a.file.now a.group.now a.locale.now a.location.now (items_in a.list.now) a.run w t.0 (sym c.in_ok-seen.was ∙ c.check_command.ensures)).1, c.requires.0, c.requires.1, c.requires.2, c.requires.3, c.requires.4)
 
-pub returns-in-Err : goal.returns-in-Err
-returns-in-Err c =
+pub returns-in_err-seen : goal.returns-in_err-seen
+returns-in_err-seen c =
     let a = c.args in
     let w = key-value a.file.now (Key a.group.now (ascii "Exec")) (sym c.find_key.ensures ∙ c.in-Some.is) in
-    refused-leaves a.out.now (group-wrong a.file.now a.group.now a.locale.now a.location.now (items_in a.list.now) a.run w (text-given w (rw c.in_ok-exec_end.was at c.read_whole.ensures)).0 (sym c.in-Err.is ∙ c.check_command.ensures))
+    rw (handed-on _ c.from_residual-in_err-seen.ensures.1) (refused-leaves a.out.now (group-wrong a.file.now a.group.now a.locale.now a.location.now (items_in a.list.now) a.run w (text-given w (rw c.in_ok-exec_end.was at c.read_whole.ensures)).0 (sym c.in_err-seen.was ∙ c.check_command.ensures)))
 
-pub returns-in-Ok : goal.returns-in-Ok
-returns-in-Ok c =
+pub returns : goal.returns
+returns c =
     let a = c.args in
     let w = key-value a.file.now (Key a.group.now (ascii "Exec")) (sym c.find_key.ensures ∙ c.in-Some.is) in
-    rw (group-right a.file.now a.group.now a.locale.now a.location.now (items_in a.list.now) a.run w (text-given w (rw c.in_ok-exec_end.was at c.read_whole.ensures)).0 (sym c.in-Ok.is ∙ c.check_command.ensures)).0 c.run_command.ensures
+    rw (group-right a.file.now a.group.now a.locale.now a.location.now (items_in a.list.now) a.run w (text-given w (rw c.in_ok-exec_end.was at c.read_whole.ensures)).0 (sym c.in_ok-seen.was ∙ c.check_command.ensures)).0 c.run_command.ensures
 
 pub slice_bounds-read_whole-start : goal.slice_bounds-read_whole-start
 slice_bounds-read_whole-start c =

@@ -1,8 +1,0 @@
--- `texts::refusal_of` meets its contract: each arm is the answer's case. Assumes nothing.
-use Rattle.exec.proofs.texts.refusal_of.Goals as goal
-
-pub returns-in-Ok : goal.returns-in-Ok
-returns-in-Ok c = rw c.in-Ok.is
-
-pub returns-in-Err : goal.returns-in-Err
-returns-in-Err c = rw c.in-Err.is
