@@ -20,7 +20,7 @@ use Rattle.rows.specs.Rows.{Row, line_of, group_after, read_rows}
 use Rattle.rows.specs.Title.{Group, Key, title, title_of, same_title, find_row, has}
 use Rattle.rows.specs.Find.{found_of}
 use Rattle.rows.specs.declared.Row as told
-use Rattle.rows.proofs.Lines.{header-good, no-group}
+use Rattle.rows.proofs.Reading.{header-good, no-group}
 use Rattle.rows.proofs.Rows.{group_end}
 use Rattle.rows.proofs.Told.{Told, told-row, found-row, reading-is, line-inside, line-stands}
 use Rattle.actions.specs.Actions.{action_group, is_action}

@@ -19,6 +19,7 @@ ghost use Rattle.change.specs.Target as target;
 use characters::{Class, Content};
 use fault::Fault;
 use line::Line;
+use rows::Lines;
 
 // What is asked for: a key is set to a text, or removed.
 #[derive(Clone, Copy)]
@@ -86,18 +87,13 @@ fn behind(file: &[u8], end: usize) -> Slot
 fn group_end(file: &[u8], group: &[u8]) -> Option<Slot>
     ensures { result ≡ target.slot_of (last (λ r. spec.of_group group.now (title.title r)) (read_rows file.now)) }
 {
-    let mut p: usize = 0;
     let mut inside = group.is_empty();
     let mut t = None;
-    while p < file.len() {
-        let e = rows::line_end(file, p);
-        let l = &file[p..e];
+    for row in Lines::new(file) {
+        let l = row.bytes;
         inside = in_group(l, group, inside);
         if is_of_group(l, inside) {
-            t = Some(behind(file, e));
-            p = e + 1;
-        } else {
-            p = e + 1;
+            t = Some(behind(file, row.end));
         }
     }
     t
@@ -120,16 +116,13 @@ fn is_postfixed(l: &[u8], key: &[u8], inside: bool) -> bool
 fn has_postfixed(file: &[u8], group: &[u8], key: &[u8]) -> bool
     ensures { result ≡ any (λ s. spec.postfix_of group.now key.now (title.title s)) (read_rows file.now) }
 {
-    let mut p: usize = 0;
     let mut inside = group.is_empty();
-    while p < file.len() {
-        let e = rows::line_end(file, p);
-        let l = &file[p..e];
+    for row in Lines::new(file) {
+        let l = row.bytes;
         inside = in_group(l, group, inside);
         if is_postfixed(l, key, inside) {
             return true;
         }
-        p = e + 1;
     }
     false
 }

@@ -17,7 +17,7 @@ use Rattle.rows.specs.Title.{Key, title, same_title}
 use Rattle.rows.specs.Find.{line_length, none_bad, found_of, inside_after}
 use Rattle.rows.specs.declared.Row as told
 use Rattle.rows.proofs.Step.{row_at, group_next, title-at}
-use Rattle.rows.proofs.Lines.{key_title, title-named}
+use Rattle.rows.proofs.Reading.{key_title, title-named}
 use Rattle.rows.proofs.Seek.{seek-end, seek-good, seek-told, told_at, SeekIn, in_start, in_row, in-next}
 use Rattle.choice.specs.Locale.{stripped_key, stripped_title, first_key}
 use Rattle.choice.specs.Step.{all_keys, rank_in, rank_of}

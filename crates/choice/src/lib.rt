@@ -14,7 +14,7 @@ ghost use Rattle.choice.specs.Locale as spec;
 ghost use Rattle.choice.specs.Step as step;
 
 use line::Parts;
-use rows::Row;
+use rows::{Lines, Row};
 
 // Whether a locale without country, encoding and modifier means the plain key.
 fn is_plain_lang(s: &[u8]) -> bool
@@ -98,14 +98,11 @@ fn find_best(file: &[u8], group: &[u8], key: &[u8], locale: &[u8], p: Parts) -> 
     requires { (none_bad file.now ≡ true) × (lists.all key_byte key.now ≡ true) × (locale_form locale.now ≡ true) × (p ≡ parts locale.now) }
     ensures { result ≡ found_of (spec.first_key (read_rows file.now) group.now (step.all_keys key.now locale.now)) }
 {
-    let mut at: usize = 0;
-    let mut n: usize = 1;
     let mut inside = group.is_empty();
     let mut best: usize = 5;
     let mut found = None;
-    while at < file.len() {
-        let e = rows::line_end(file, at);
-        let l = &file[at..e];
+    for row in Lines::new(file) {
+        let l = row.bytes;
         inside = rows::is_inside(l, group, inside);
         if inside {
             if l.starts_with(key) {
@@ -113,10 +110,10 @@ fn find_best(file: &[u8], group: &[u8], key: &[u8], locale: &[u8], p: Parts) -> 
                 if r < best {
                     best = r;
                     found = Some(Row {
-                        line: n,
-                        start: at,
-                        end: e,
-                        value: at + rows::value_start(l),
+                        line: row.number,
+                        start: row.start,
+                        end: row.end,
+                        value: row.start + rows::value_start(l),
                     });
                 }
             }
@@ -124,8 +121,6 @@ fn find_best(file: &[u8], group: &[u8], key: &[u8], locale: &[u8], p: Parts) -> 
         if best == 0 {
             return found;
         }
-        at = e + 1;
-        n += 1;
     }
     found
 }

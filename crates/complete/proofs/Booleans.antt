@@ -18,7 +18,7 @@ use Rattle.rows.specs.Rows.{Row, rows, rows_from, read_rows, value_start, raw_va
 use Rattle.rows.specs.Title.{desktop_entry, title_of, same_title}
 use Rattle.rows.specs.Find.{line_length, none_bad}
 use Rattle.rows.proofs.Step.{row_at, group_next, no_row, line_at, title-at, row_step, Prefix, prefix-start, prefix-rest, prefix-next}
-use Rattle.rows.proofs.Lines.{header-good, group-stays}
+use Rattle.rows.proofs.Reading.{header-good, group-stays}
 use Rattle.complete.specs.Complete.{main, boolean_keys, is_boolean, bad_boolean, booleans}
 use Rattle.complete.specs.Step.{boolean_key, wrong_in}
 

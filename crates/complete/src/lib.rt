@@ -13,6 +13,7 @@ ghost use Rattle.complete.specs.Step as step;
 
 use fault::Fault;
 use line::Line;
+use rows::Lines;
 
 // Whether Desktop Entry has a plain key.
 fn has_key(file: &[u8], key: &[u8]) -> bool
@@ -115,27 +116,13 @@ fn check_booleans(file: &[u8]) -> Result<(), Fault>
     requires { none_bad file.now ≡ true }
     ensures { result ≡ spec.booleans (read_rows file.now) }
 {
-    let mut p: usize = 0;
-    let mut n: usize = 1;
     let mut inside = false;
-    while p < file.len() {
-        let e = rows::line_end(file, p);
-        let l = &file[p..e];
+    for row in Lines::new(file) {
+        let l = row.bytes;
         if line::byte_at(l, 0) == b'[' {
             inside = is_desktop_entry(l);
-            p = e + 1;
-            n += 1;
-        } else {
-            if inside {
-                if is_wrong(l) {
-                    return Err(Fault::Incomplete { line: n });
-                }
-                p = e + 1;
-                n += 1;
-            } else {
-                p = e + 1;
-                n += 1;
-            }
+        } else if inside && is_wrong(l) {
+            return Err(Fault::Incomplete { line: row.number });
         }
     }
     Ok(())

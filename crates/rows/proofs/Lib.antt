@@ -2,6 +2,7 @@ pub mod Rows
 pub mod Titles
 pub mod Sight
 pub mod Step
-pub mod Lines
+pub mod Reading
 pub mod Seek
 pub mod Told
+pub mod Turns

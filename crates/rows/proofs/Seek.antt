@@ -19,7 +19,7 @@ use Rattle.rows.specs.Title.{Title, Group, Key, same_title, find_row}
 use Rattle.rows.specs.Find.{line_length, none_bad, found_of, named_as, inside_after}
 use Rattle.rows.specs.declared.Row as told
 use Rattle.rows.proofs.Step.{row_at, group_next, title_at, no_row, start-le, end-le, length-line, line_at, title-at, row_step}
-use Rattle.rows.proofs.Lines.{value-le, header-good, no-group, inside-after, key-title}
+use Rattle.rows.proofs.Reading.{value-le, header-good, no-group, inside-after, key-title}
 
 -- the value of the row that starts at p lies in the file
 pub value-fits : (s : List ℕ) {p e v : ℕ} → p < length s → e ≡ p + line_length (drop p s) → v ≡ value_start (read_line (part p e s)) → p + v ≤ length s

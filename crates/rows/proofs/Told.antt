@@ -18,7 +18,7 @@ use Rattle.rows.specs.Title.{Title, title, same_title, find_row}
 use Rattle.rows.specs.Find.{found_of}
 use Rattle.rows.specs.declared.Row as told
 use Rattle.rows.proofs.Rows.{joined-rows, row-split, Found, found_first}
-use Rattle.rows.proofs.Lines.{value-le}
+use Rattle.rows.proofs.Reading.{value-le}
 
 -- ---- the row behind what is told
 

@@ -1,3 +1,4 @@
 pub mod Rows
 pub mod Title
 pub mod Find
+pub mod Lines

@@ -1,6 +1,8 @@
 // The rows of a file: where a line ends, and which row has a name.
 #![tactic(auto)]
 
+mod walk; // walk.rt: the lines of a file, in turn
+
 ghost use Rattle.std.specs.Prelude.{◌≡◌, true, false, ◌++◌, ◌+◌, ◌≤◌, ◌<◌, length, take, drop};
 ghost use Rattle.base.specs.Lists as lists;
 ghost use Rattle.line.specs.Name.{read_name};
@@ -18,6 +20,24 @@ pub struct Row {
     pub start: usize,
     pub end: usize,
     pub value: usize,
+}
+
+// A line of a file, without its LF: its number from 1, where it starts, where it ends, and its bytes.
+#[derive(Clone, Copy)]
+pub struct LineAt<'a> {
+    pub number: usize,
+    pub start: usize,
+    pub end: usize,
+    pub bytes: &'a [u8],
+}
+
+// The lines of a file, one after another, from a place on.
+#[derive(Clone, Copy)]
+pub struct Lines<'a> {
+    file: &'a [u8],
+    number: usize,
+    start: usize,
+    ghost few: { number ≤ start + 1 },
 }
 
 // Whether none of sixteen bytes is an LF. The loop has no way out, so that it becomes one comparison of sixteen bytes.
@@ -115,25 +135,20 @@ pub fn find_key(file: &[u8], group: &[u8], key: &[u8]) -> Option<Row>
     requires { none_bad file.now ≡ true }
     ensures { result ≡ found_of (title.find_row (read_rows file.now) (title.Key group.now key.now)) }
 {
-    let mut p: usize = 0;
-    let mut n: usize = 1;
     let mut inside = group.is_empty();
-    while p < file.len() {
-        let e = line_end(file, p);
-        let l = &file[p..e];
+    for row in Lines::new(file) {
+        let l = row.bytes;
         inside = is_inside(l, group, inside);
         if inside {
             if is_named(l, key) {
                 return Some(Row {
-                    line: n,
-                    start: p,
-                    end: e,
-                    value: p + value_start(l),
+                    line: row.number,
+                    start: row.start,
+                    end: row.end,
+                    value: row.start + value_start(l),
                 });
             }
         }
-        p = e + 1;
-        n += 1;
     }
     None
 }
@@ -153,26 +168,15 @@ pub fn find_group(file: &[u8], front: &[u8], rest: &[u8]) -> Option<Row>
     requires { none_bad file.now ≡ true }
     ensures { result ≡ found_of (title.find_row (read_rows file.now) (title.Group (front.now ++ rest.now))) }
 {
-    let mut p: usize = 0;
-    let mut n: usize = 1;
-    while p < file.len() {
-        let e = line_end(file, p);
-        let l = &file[p..e];
-        if line::byte_at(l, 0) == b'[' {
-            let t = l.len() - 1;
-            if is_joined(&l[1..t], front, rest) {
-                return Some(Row {
-                    line: n,
-                    start: p,
-                    end: e,
-                    value: p,
-                });
-            }
-            p = e + 1;
-            n += 1;
-        } else {
-            p = e + 1;
-            n += 1;
+    for row in Lines::new(file) {
+        let l = row.bytes;
+        if line::byte_at(l, 0) == b'[' && is_joined(&l[1..l.len() - 1], front, rest) {
+            return Some(Row {
+                line: row.number,
+                start: row.start,
+                end: row.end,
+                value: row.start,
+            });
         }
     }
     None

@@ -14,6 +14,7 @@ ghost use Rattle.wellformed.specs.Pass as pass;
 
 use fault::Fault;
 use line::Line;
+use rows::Lines;
 
 // A file below this has few enough names for the small table of marks: to clear 16 KB takes as long as to read 500 bytes.
 const FILE_SHORT: usize = 4096;
@@ -254,20 +255,15 @@ fn scan(file: &[u8], leading: &[u8], marks: &mut [u64]) -> Result<Order, Fault>
     requires { 0 < length marks.old }
     ensures { (pass.scanned result ≡ spec.titled_as leading.now (read_rows file.now)) × pass.Settles result (read_rows file.now) }
 {
-    let mut p: usize = 0;
-    let mut n: usize = 1;
     let mut s = start();
-    while p < file.len() {
-        let e = rows::line_end(file, p);
+    for at in Lines::new(file) {
         let row = Part {
-            from: p,
-            len: e - p,
+            from: at.start,
+            len: at.end - at.start,
         };
-        let r = line::read_line(bytes(file, row));
-        read_row(file, row, r, n, leading, s, marks)?;
+        let r = line::read_line(at.bytes);
+        read_row(file, row, r, at.number, leading, s, marks)?;
         s = after(file, row, r, s, false);
-        p = e + 1;
-        n += 1;
     }
     let want = s.want;
     if s.tag == 0 {
@@ -315,20 +311,15 @@ fn plain_keys(file: &[u8]) -> Result<(), Fault>
     requires { none_bad file.now ≡ true }
     ensures { result ≡ spec.plain_all (read_rows file.now) }
 {
-    let mut p: usize = 0;
-    let mut n: usize = 1;
     let mut s = start();
-    while p < file.len() {
-        let e = rows::line_end(file, p);
+    for at in Lines::new(file) {
         let row = Part {
-            from: p,
-            len: e - p,
+            from: at.start,
+            len: at.end - at.start,
         };
-        let r = line::read_line(bytes(file, row));
-        ask_row(file, row, r, n, s)?;
+        let r = line::read_line(at.bytes);
+        ask_row(file, row, r, at.number, s)?;
         s = after(file, row, r, s, true);
-        p = e + 1;
-        n += 1;
     }
     Ok(())
 }

@@ -1,11 +1,12 @@
--- `group_end` meets its contract: the last row of the group before `p` is known. Assumes nothing.
-use lib.ListN.{length}
-use Prim.Native.Nat.{◌-◌}
+-- `group_end` meets its contract: the last row of the group before the iterator's place is known. Assumes nothing.
+use mathlib.Core.Path.{◌≡◌}
 use Rattle.change.proofs.Passing.{Ending}
 use Rattle.change.proofs.group_end.Given as goal
 
-abbrev pub invariant-loop-p : goal.invariant-loop-p
-invariant-loop-p l = Ending l.file l.group l.p l.inside l.t
-
-abbrev pub decreases-loop-p : goal.decreases-loop-p
-decreases-loop-p l = length l.file - l.p
+abbrev pub invariant-loop-row : goal.invariant-loop-row
+invariant-loop-row l = record {
+  ready : (goal.iterator-loop-row).can_next l.row-iterator;
+  ends : (goal.iterator-loop-row).is_finite l.row-iterator;
+  of : l.row-iterator.file.now ≡ l.file;
+  ending : Ending l.file l.group l.row-iterator.start l.inside l.t;
+}

@@ -6,7 +6,7 @@ use lib.ListN.{length}
 use Rattle.base.proofs.Tests.{pointwise_same}
 use Rattle.line.specs.declared.Line.TheVariants.{Header}
 use Rattle.line.proofs.Bounds.{LineWithin, line-within}
-use Rattle.rows.proofs.Lines.{group-stays}
+use Rattle.rows.proofs.Reading.{group-stays}
 use Rattle.change.proofs.in_group.Goals as goal
 use Rattle.change.proofs.in_group.Goals.{In-Header}
 

@@ -1,12 +1,13 @@
--- `find_best` meets its contract: the rows from `at` on, and the best row before them, have the answer. Assumes nothing.
-use lib.ListN.{length}
-use Prim.Native.Nat.{◌-◌}
+-- `find_best` meets its contract: the rows from the iterator's place on, and the best row before them, have the answer. Assumes nothing.
+use mathlib.Core.Path.{◌≡◌}
 use Rattle.choice.specs.Step.{all_keys}
 use Rattle.choice.proofs.Best.{Best}
 use Rattle.choice.proofs.find_best.Given as goal
 
-abbrev pub invariant-loop-at : goal.invariant-loop-at
-invariant-loop-at l = Best l.file l.group (all_keys l.key l.locale) l.at l.n l.inside l.best l.found
-
-abbrev pub decreases-loop-at : goal.decreases-loop-at
-decreases-loop-at l = length l.file - l.at
+abbrev pub invariant-loop-row : goal.invariant-loop-row
+invariant-loop-row l = record {
+  ready : (goal.iterator-loop-row).can_next l.row-iterator;
+  ends : (goal.iterator-loop-row).is_finite l.row-iterator;
+  of : l.row-iterator.file.now ≡ l.file;
+  best : Best l.file l.group (all_keys l.key l.locale) l.row-iterator.start l.row-iterator.number l.inside l.best l.found;
+}

@@ -3,7 +3,7 @@ use borrow.Author.Tests.{eq-eqb, ne_eqb}
 use native.Mathlib.Omega.{arith}
 use mathlib.Core.Path.{sym, ◌∙◌}
 use Rattle.base.proofs.Tests.{pointwise_same}
-use Rattle.rows.proofs.Lines.{header-good, inside-stays}
+use Rattle.rows.proofs.Reading.{header-good, inside-stays}
 use Rattle.rows.proofs.is_inside.Goals as goal
 
 pub slice_bounds-eq-count : goal.slice_bounds-eq-count

@@ -8,7 +8,7 @@ use lib.ListN.{length, take}
 use lib.Pointwise.{pointwise}
 use Rattle.base.specs.Lists.{same}
 use Rattle.base.proofs.Tests.{pointwise_same, same-sym}
-use Rattle.rows.proofs.Lines.{joined_same}
+use Rattle.rows.proofs.Reading.{joined_same}
 use Rattle.rows.proofs.is_joined.Goals as goal
 
 -- whether the first part stands at the front

@@ -2,7 +2,7 @@
 use borrow.Author.Rules.{rules}
 use mathlib.Core.Path.{sym, ◌∙◌}
 use Rattle.base.proofs.Tests.{pointwise_same}
-use Rattle.rows.proofs.Lines.{not-front, at-front}
+use Rattle.rows.proofs.Reading.{not-front, at-front}
 use Rattle.rows.proofs.is_named.Goals as goal
 
 pub returns-then-starts_with : goal.returns-then-starts_with
