@@ -46,8 +46,11 @@ fn action_left(
     if group.len() == 0 {
         return Ok(left);
     }
-    let n = text::escape::text_length(label(file, group, locale), Escapes::Text)?;
-    Ok(text::spend(text::spend(text::spend(left, 12), e - i), n))
+    // No `?`, whose proof would refuse also a harmless edit of this refusal.
+    match text::escape::text_length(label(file, group, locale), Escapes::Text) {
+        Ok(n) => Ok(text::spend(text::spend(text::spend(left, 12), e - i), n)),
+        Err(refusal) => Err(refusal),
+    }
 }
 
 // The room that all records leave, or where the first wrong label's escape is.

@@ -1,5 +1,5 @@
 -- What the functions of this crate answer, by the definitions of set and remove. Assumes nothing.
-use Rattle.std.specs.Prelude.{ℕ, ◌+◌, ◌≤◌, ◌≡◌, Bool, true, false, not, ◌&&◌, List, [], length, take, eqb, Option, option_map, IfOk}
+use Rattle.std.specs.Prelude.{ℕ, ◌+◌, ◌≤◌, ◌≡◌, Bool, true, false, not, ◌&&◌, List, [], length, take, eqb, Option, option_map, Ok, Err, IfOk}
 use Rattle.base.specs.Lists.{same, part}
 use Rattle.fault.specs.Answer.{Answer, then}
 use Rattle.text.specs.Escape.{raw_text}
@@ -24,6 +24,11 @@ abbrev pub new_bytes : List ℕ → List ℕ → Target → List ℕ
 new_bytes key text (Value from to) = raw_text text
 new_bytes key text (Entry at after) = with_lf after (entry_bytes key (raw_text text))
 new_bytes key text (Gone from to) = []
+
+-- the same by what was found; a refusal has none
+abbrev pub bytes_for : List ℕ → List ℕ → Answer Target → List ℕ
+bytes_for key text (Ok t) = new_bytes key text t
+bytes_for key text (Err f) = []
 
 -- the edit of a file
 abbrev pub edit_by : List ℕ → List ℕ → List ℕ → Target → Edit

@@ -231,10 +231,13 @@ fn capped(n: usize) -> usize
     MANY
 }
 
-// How many bytes are new; MANY for more than a file has.
-pub fn new_length(key: &[u8], text: &[u8], t: Target) -> usize
-    ensures { result ≡ min (length (target.new_bytes key.now text.now t)) (file_most + 1) }
+// How many bytes are new; MANY for more than a file has, none for a refusal.
+pub fn new_length(key: &[u8], text: &[u8], found: Result<Target, Fault>) -> usize
+    ensures { result ≡ min (length (target.bytes_for key.now text.now found)) (file_most + 1) }
 {
+    let Ok(t) = found else {
+        return 0;
+    };
     match t {
         Target::Value { .. } => capped(text::escape::raw_length(text)),
         Target::Entry { .. } => {
@@ -277,10 +280,19 @@ fn put_line(out: &mut [u8], at: usize, key: &[u8], text: &[u8], after: bool) -> 
 }
 
 // The new bytes through the part of an output that starts at a place; the answer is where they end.
-pub fn put_new(out: &mut [u8], at: usize, key: &[u8], text: &[u8], t: Target) -> usize
-    requires { at + length (target.new_bytes key.now text.now t) ≤ length out.old }
-    ensures { WroteAt out.old at (target.new_bytes key.now text.now t) result out.new }
+pub fn put_new(
+    out: &mut [u8],
+    at: usize,
+    key: &[u8],
+    text: &[u8],
+    found: Result<Target, Fault>,
+) -> usize
+    requires { at + length (target.bytes_for key.now text.now found) ≤ length out.old }
+    ensures { WroteAt out.old at (target.bytes_for key.now text.now found) result out.new }
 {
+    let Ok(t) = found else {
+        return at;
+    };
     match t {
         Target::Value { .. } => put_raw(out, at, text),
         Target::Entry { after, .. } => put_line(out, at, key, text, after),

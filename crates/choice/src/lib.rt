@@ -105,7 +105,7 @@ fn find_best(file: &[u8], group: &[u8], key: &[u8], locale: &[u8], p: Parts) -> 
         let l = row.bytes;
         inside = rows::is_inside(l, group, inside);
         if inside {
-            if l.starts_with(key) {
+            if rows::begins(l, key) {
                 let r = rank(l, key, locale, p);
                 if r < best {
                     best = r;

@@ -76,7 +76,7 @@ fn write(
     let to = place + old;
     journal::put_front(journal, standing, person, place, &file[place..to], n);
     let from = standing + 20 + old;
-    let end = change::put_new(journal, from, key, text, t);
+    let end = change::put_new(journal, from, key, text, Ok(t));
     splice::replace(file, size, place, old, &journal[from..end]);
 }
 
@@ -99,7 +99,7 @@ fn make(
         (record { place = place; old = part place (place + old) (take size file.old); new = target.new_bytes key.now text.now t })))
         result file.new journal.new }
 {
-    let n = change::new_length(key, text, t);
+    let n = change::new_length(key, text, Ok(t));
     let len = size - old + n;
     if file.len() < len {
         return Err(Fault::NoRoom);

@@ -20,14 +20,28 @@ pub fn read_whole(raw: &[u8], out: &mut [u8]) -> Result<usize, Fault>
     text::read_text(raw, out)
 }
 
+// The refusal of a choice, with its number and place; of one that was not refused, no bytes. Not a `?`: of an edit of what that hands on, the proof
+// would refuse a harmless one too.
+fn refusal_of(chosen: Result<Ends, Fault>) -> Result<usize, Fault>
+    ensures { result ≡ then (λ _. 0) chosen }
+{
+    match chosen {
+        Ok(_) => Ok(0),
+        Err(f) => Err(f),
+    }
+}
+
 // The text of Name by locale, where it is wanted.
 pub fn name_text(file: &[u8], locale: &[u8], wanted: bool, out: &mut [u8]) -> Result<usize, Fault>
     requires { (none_bad file.now ≡ true) × (length file.now ≤ file_most) × (file_most ≤ length out.old) × (locale_form locale.now ≡ true) }
     ensures { ReadTo (spec.name_text (read_rows file.now) locale.now wanted) out.old result out.new }
 {
     if wanted {
-        let ends = entry::chosen_ends(file, b"Desktop Entry", b"Name", locale)?;
-        return read_whole(&file[ends.from..ends.to], out);
+        let chosen = entry::chosen_ends(file, b"Desktop Entry", b"Name", locale);
+        let Ok(Ends { from, to }) = chosen else {
+            return refusal_of(chosen);
+        };
+        return read_whole(&file[from..to], out);
     }
     Ok(0)
 }

@@ -64,6 +64,7 @@ fn read_parts(used: &[u8], start: usize, from: usize, end: usize) -> Result<Reco
 }
 
 // The edit in the record at a place, of kind 1 or behind a person's two bytes in one of kind 4; none at the end.
+#[inline(always)]
 fn read_edit(used: &[u8], at: usize) -> Result<Option<Record>, Fault>
     ensures { Reads used.now at result }
 {

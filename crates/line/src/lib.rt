@@ -3,7 +3,8 @@
 
 pub mod form; // form.rt: the forms of arguments
 
-ghost use Rattle.std.specs.Prelude.{◌≡◌, ◌+◌, ◌<◌, length, drop};
+ghost use Rattle.std.specs.Prelude.{◌≡◌, true, ◌+◌, ◌<◌, length, drop};
+ghost use Rattle.characters.specs.Class.{blank_byte};
 ghost use Rattle.line.specs.Locale as locale;
 ghost use Rattle.line.specs.Name as name;
 ghost use Rattle.line.specs.Line as spec;
@@ -189,7 +190,21 @@ fn read_header(s: &[u8]) -> Line
     Line::Bad(e + 1)
 }
 
-// What a line is; s is the line without its LF. The first byte decides what it can be.
+// A line that begins with a blank byte: blank, or bad at the first byte that is none.
+fn read_blank(s: &[u8]) -> Line
+    requires { (0 < length s.now) × (blank_byte (name.byte_at s.now 0) ≡ true) }
+    ensures { result ≡ spec.read_line s.now }
+{
+    let blank = characters::classes::span_end(s, 0, Class::Blank);
+    if blank == s.len() {
+        return Line::Blank;
+    }
+    Line::Bad(blank)
+}
+
+// What a line is; s is the line without its LF. The first byte decides what it can be. Where it is asked, an empty line and a comment, of which a file may
+// have many, cost no call.
+#[inline(always)]
 pub fn read_line(s: &[u8]) -> Line
     ensures { result ≡ spec.read_line s.now }
 {
@@ -197,13 +212,7 @@ pub fn read_line(s: &[u8]) -> Line
         [] => Line::Blank,
         [b'#', ..] => Line::Comment,
         [b'[', ..] => read_header(s),
-        [first, ..] if characters::classes::is_in(Class::Blank, *first) => {
-            let blank = characters::classes::span_end(s, 0, Class::Blank);
-            if blank == s.len() {
-                return Line::Blank;
-            }
-            Line::Bad(blank)
-        }
+        [first, ..] if characters::classes::is_in(Class::Blank, *first) => read_blank(s),
         _ => read_entry(s),
     }
 }

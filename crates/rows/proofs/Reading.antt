@@ -5,7 +5,7 @@ use Prim.Native.Nat.{ℕ, ◌-◌, ◌≤◌, ◌<◌}
 use native.Mathlib.Omega.{arith}
 use mathlib.Core.Bool.{Bool, true, false, ◌&&◌, and-false, and_assoc, false≢true}
 use mathlib.Core.List.{List, [], ◌∷◌, ◌++◌}
-use lib.ListN.{length, take, drop}
+use lib.ListN.{length, take, drop, length-take}
 use lib.Seq.{length-take-le}
 use lib.Dec.{eqb}
 use borrow.Author.Tests.{eqb-true, eqb-false}
@@ -154,6 +154,11 @@ not-front k l f = go (read_name l) (name-within l)
     go (Ok n) h = by-test (same k (take n.name l)) (λ t. absurd (false≢true (sym f ∙ rw (same_length k l n.name h.2 t) t))) (λ e. e)
     go (Err n) h = refl
 
+-- a line that is shorter does not begin with the key
+pub too_short : (k l : List ℕ) → length l < length k → same k (take (length k) l) ≡ false
+too_short k l h =
+    by-test (same k (take (length k) l)) (λ t. absurd (omega (arith, ap length (same_true k (take (length k) l) t), length-take (length k) l))) (λ e. e)
+
 -- two parts, one after the other, are compared part by part
 pub joined_same : (f r s : List ℕ) → same (f ++ r) s ≡ (same f (take (length f) s) && same r (drop (length f) s))
 unfolding same
@@ -162,7 +167,7 @@ joined_same (x ∷ f) r [] = refl
 joined_same (x ∷ f) r (y ∷ s) = rw (joined_same f r s) (sym (and_assoc (eqb x y) (same f (take (length f) s)) (same r (drop (length f) s))))
 
 -- one that is at the front is the first n bytes if it is as long
-front : (k l : List ℕ) (n : ℕ) → same k (take (length k) l) ≡ true → n ≤ length l → same k (take n l) ≡ eqb n (length k)
+pub front : (k l : List ℕ) (n : ℕ) → same k (take (length k) l) ≡ true → n ≤ length l → same k (take n l) ≡ eqb n (length k)
 front k l n t h =
     by-test (eqb n (length k))
     (λ e. let z : n ≡ length k = eqb-true n (length k) e in rw (e, z) t)

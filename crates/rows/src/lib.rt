@@ -101,11 +101,18 @@ pub fn line_end(s: &[u8], from: usize) -> usize
     i
 }
 
+// Whether a line begins with these bytes. Most lines differ from a key in their first bytes, where `==` stops and `starts_with` does not.
+pub fn begins(l: &[u8], key: &[u8]) -> bool
+    ensures { result ≡ lists.same key.now (take (length key.now) l.now) }
+{
+    key.len() <= l.len() && &l[..key.len()] == key
+}
+
 // Whether a line's key with its postfix is this one.
 fn is_named(l: &[u8], key: &[u8]) -> bool
     ensures { result ≡ named_as key.now l.now (read_name l.now) }
 {
-    l.starts_with(key) && line::read_name(l).is_ok_and(|n| n.name == key.len())
+    begins(l, key) && line::read_name(l).is_ok_and(|n| n.name == key.len())
 }
 
 // Where an entry's value starts in its line; 0 for another line.
@@ -153,14 +160,15 @@ pub fn find_key(file: &[u8], group: &[u8], key: &[u8]) -> Option<Row>
     None
 }
 
-// Whether bytes are two parts, one after the other.
+// Whether bytes are two parts, one after the other. The rest is compared first, since the front is that of many groups.
 fn is_joined(s: &[u8], front: &[u8], rest: &[u8]) -> bool
     ensures { result ≡ lists.same (front.now ++ rest.now) s.now }
 {
-    let Some(tail) = s.strip_prefix(front) else {
+    let n = front.len();
+    if s.len() < n {
         return false;
-    };
-    rest == tail
+    }
+    rest == &s[n..] && begins(s, front)
 }
 
 // The header of a group whose name is two parts, one after the other, in a file without bad lines.

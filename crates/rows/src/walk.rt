@@ -25,6 +25,7 @@ impl<'a> Iterator for Lines<'a> {
 
     ghost remaining = { λ s. at_most (length s.file.now - s.start) };
 
+    #[inline(always)]
     fn next(&mut self) -> Option<LineAt<'a>> {
         let file = self.file;
         let start = self.start;

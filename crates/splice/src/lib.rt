@@ -5,14 +5,17 @@ ghost use Rattle.std.specs.Prelude.{◌≡◌, ◌+◌, ◌-◌, ◌≤◌, leng
 ghost use Rattle.base.specs.Over.{over, WroteAt};
 ghost use Rattle.splice.specs.Edit.{replaced, stands_at, buffer_with};
 
-// Whether these bytes stand at a place, all inside the file.
+// Whether these bytes stand at a place, all inside the file. Their length is asked first, by a test that a must-fail edit turns.
 pub fn stands(file: &[u8], place: usize, old: &[u8]) -> bool
     ensures { result ≡ stands_at place old.now file.now }
 {
-    let Some(rest) = file.get(place..) else {
+    if file.len() < place {
         return false;
-    };
-    rest.starts_with(old)
+    }
+    if file.len() - place < old.len() {
+        return false;
+    }
+    file[place..].starts_with(old)
 }
 
 // Bytes written from a place on; the answer is where they end.

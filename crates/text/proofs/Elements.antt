@@ -31,19 +31,24 @@ use Rattle.text.proofs.OutputLaws.{Leaves, leaves-refused, leaves-full, leaves-w
 
 -- ---- the text of some bytes does not depend on their place, and the place of a wrong escape moves with it
 
+-- how many bytes stand where the place of a wrong escape is counted: the backslash that was passed is one of them
+abbrev extent : Bool → List ℕ → ℕ
+extent true s = suc (length s)
+extent false s = length s
+
 abbrev Everywhere : Escapes → List ℕ → Bool → ℕ → Answer (List ℕ) → Type 0
 Everywhere k s f at (Ok t) = (m : ℕ) → text_from k s f m ≡ Ok t
-Everywhere k s f at (Err g) = (p : ℕ) × (g ≡ BadEscape (at + p)) × ((m : ℕ) → text_from k s f m ≡ Err (BadEscape (m + p)))
+Everywhere k s f at (Err g) = (p : ℕ) × (g ≡ BadEscape (at + p)) × ((m : ℕ) → text_from k s f m ≡ Err (BadEscape (m + p))) × (p ≤ extent f s)
 
 -- w raw bytes before s stand for the byte x
-before-all : (k : Escapes) (s r : List ℕ) (f : Bool) (x w at : ℕ) → ((m : ℕ) → text_from k r f m ≡ then (λ t. x ∷ t) (text_from k s false (m + w)))
+before-all : (k : Escapes) (s r : List ℕ) (f : Bool) (x w at : ℕ) → ((m : ℕ) → text_from k r f m ≡ then (λ t. x ∷ t) (text_from k s false (m + w))) → w + length s ≤ extent f r
     → (a : Answer (List ℕ)) → Everywhere k s false (at + w) a → Everywhere k r f at (then (λ t. x ∷ t) a)
-before-all k s r f x w at h (Ok t) e = λ m. h m ∙ ap (then (λ u. x ∷ u)) (e (m + w))
-before-all k s r f x w at h (Err g) (p, i, e) =
-    (w + p, i ∙ ap BadEscape (omega arith), λ m. let q : m + w + p ≡ m + (w + p) = omega arith in h m ∙ ap (then (λ u. x ∷ u)) (e (m + w)) ∙ rw q)
+before-all k s r f x w at h l (Ok t) e = λ m. h m ∙ ap (then (λ u. x ∷ u)) (e (m + w))
+before-all k s r f x w at h l (Err g) (p, i, e, b) =
+    (w + p, i ∙ ap BadEscape (omega arith), λ m. let q : m + w + p ≡ m + (w + p) = omega arith in h m ∙ ap (then (λ u. x ∷ u)) (e (m + w)) ∙ rw q, omega arith)
 
 wrong-all : (k : Escapes) (s : List ℕ) (f : Bool) (at : ℕ) → ((m : ℕ) → text_from k s f m ≡ Err (BadEscape m)) → Everywhere k s f at (Err (BadEscape at))
-wrong-all k s f at h = (0, ap BadEscape (omega arith), λ m. let q : m + 0 ≡ m = omega arith in h m ∙ rw q)
+wrong-all k s f at h = (0, ap BadEscape (omega arith), λ m. let q : m + 0 ≡ m = omega arith in h m ∙ rw q, omega arith)
 
 everywhere : (k : Escapes) (s : List ℕ) (f : Bool) (at : ℕ) → Everywhere k s f at (text_from k s f at)
 unfolding text_from
@@ -54,17 +59,17 @@ everywhere k (b ∷ bs) true at = go (escape k b) refl (everywhere k bs false (a
     go : (o : Option ℕ) → escape k b ≡ o → Everywhere k bs false (at + 2) (text_from k bs false (at + 2))
         → Everywhere k (b ∷ bs) true at (maybe o (Err (BadEscape at)) (λ x. then (λ t. x ∷ t) (text_from k bs false (at + 2))))
     go None q ih = wrong-all k (b ∷ bs) true at (λ m. rw q)
-    go (Some x) q ih = before-all k bs (b ∷ bs) true x 2 at (λ m. rw q) (text_from k bs false (at + 2)) ih
+    go (Some x) q ih = before-all k bs (b ∷ bs) true x 2 at (λ m. rw q) (omega arith) (text_from k bs false (at + 2)) ih
 everywhere k (b ∷ bs) false at = go (eqb b 92) refl (everywhere k bs true at) (everywhere k bs false (at + 1))
   where
     same-all : (a : Answer (List ℕ)) → eqb b 92 ≡ true → Everywhere k bs true at a → Everywhere k (b ∷ bs) false at a
     same-all (Ok t) q e = λ m. rw q (e m)
-    same-all (Err g) q (p, i, e) = (p, i, λ m. rw q (e m))
+    same-all (Err g) q (p, i, e, l) = (p, i, λ m. rw q (e m), l)
 
     go : (t : Bool) → eqb b 92 ≡ t → Everywhere k bs true at (text_from k bs true at) → Everywhere k bs false (at + 1) (text_from k bs false (at + 1))
         → Everywhere k (b ∷ bs) false at (pick t (text_from k bs true at) (then (λ u. b ∷ u) (text_from k bs false (at + 1))))
     go true q pair single = same-all (text_from k bs true at) q pair
-    go false q pair single = before-all k bs (b ∷ bs) false b 1 at (λ m. rw q) (text_from k bs false (at + 1)) single
+    go false q pair single = before-all k bs (b ∷ bs) false b 1 at (λ m. rw q) (omega arith) (text_from k bs false (at + 1)) single
 
 module _ (k : Escapes) (s : List ℕ) (at : ℕ) where
   pub text-anywhere : accepted (text_from k s false 0) ≡ true → text_from k s false at ≡ Ok (text_of (text_from k s false 0))
@@ -73,6 +78,21 @@ module _ (k : Escapes) (s : List ℕ) (at : ℕ) where
       go : (a : Answer (List ℕ)) → accepted a ≡ true → Everywhere k s false 0 a → text_from k s false at ≡ Ok (text_of a)
       go (Ok t) h e = e at
       go (Err g) h e = absurd (false≢true h)
+
+  pub wrong-anywhere : {p : ℕ} → text_from k s false 0 ≡ Err (BadEscape p) → text_from k s false at ≡ Err (BadEscape (at + p))
+  wrong-anywhere {p} h = go (text_from k s false 0) h (everywhere k s false 0)
+    where
+      go : (a : Answer (List ℕ)) → a ≡ Err (BadEscape p) → Everywhere k s false 0 a → text_from k s false at ≡ Err (BadEscape (at + p))
+      go (Ok t) h e = no (cc)
+      go (Err g) h (q, i, e, l) = let y : p ≡ 0 + q = cc in let z : p ≡ q = omega arith in rw z (e at)
+
+  -- a wrong escape stands in the value
+  pub wrong-within : {p : ℕ} → text_from k s false 0 ≡ Err (BadEscape p) → p ≤ length s
+  wrong-within {p} h = go (text_from k s false 0) h (everywhere k s false 0)
+    where
+      go : (a : Answer (List ℕ)) → a ≡ Err (BadEscape p) → Everywhere k s false 0 a → p ≤ length s
+      go (Ok t) h e = no (cc)
+      go (Err g) h (q, i, e, l) = let y : p ≡ 0 + q = cc in omega arith
 
 -- ---- the first raw element, and the others
 
@@ -155,7 +175,7 @@ module _ (raw : List ℕ) (i : ℕ) {e : ℕ} (h : i < length raw) (q : e ≡ i 
   abbrev pub placed : Answer (List ℕ)
   placed = text_from escapes.List element false i
 
-  element-wrong : {f : Fault} → placed ≡ Err f → elements_at raw i ≡ Err f
+  pub element-wrong : {f : Fault} → placed ≡ Err f → elements_at raw i ≡ Err f
   unfolding each_read
   element-wrong w = rw (split, w)
 
@@ -188,6 +208,12 @@ module _ {raw : List ℕ} {room i : ℕ} {rest : Option ℕ} (s : RoomLeft raw r
   module _ {e : ℕ} (h : i < length raw) (q : e ≡ i + element_length (drop i raw) false) where
     pub room-wrong : {f : Fault} → Err f ≡ then length (placed raw i h q) → Err f ≡ then (spend_all (Some room)) (elements_of raw)
     room-wrong w = rw (element-wrong raw i h q (then-refused length (placed raw i h q) w)) at s.goes
+
+    -- its place is inside
+    pub room-place : {p : ℕ} → Err (BadEscape p) ≡ then length (own raw i h q) → i + p ≤ length raw
+    room-place {p} w =
+        let b = wrong-within escapes.List (element raw i h q) 0 (then-refused length (own raw i h q) w) in
+        omega (arith, long raw i h q, element-end raw i h q)
 
     pub room_next : {n : ℕ} {rest' : Option ℕ} → Ok n ≡ then length (placed raw i h q) → rest' ≡ spend_record rest n → RoomLeft raw room (e + 1) rest'
     room_next {n} w r =
@@ -325,7 +351,7 @@ module _ {raw out₀ out : List ℕ} {i at : ℕ} (w : Listing raw out₀ out i 
           where
             wrong : (g : Fault) → own raw i h q ≡ Err g → Everywhere escapes.List (element raw i h q) false 0 (own raw i h q) → false ≡ true
             wrong g z v =
-                let (p, k, m) = rw z at v in
+                let (p, k, m, l) = rw z at v in
                 sym (ap accepted (element-wrong raw i h q (m i))) ∙ w.sound
 
     abbrev body : List ℕ

@@ -110,7 +110,7 @@ counted-cons : (n x : ℕ) (a : Answer (List ℕ)) → counted n (then (λ t. x 
 counted-cons n x (Ok t) = ap Ok (omega arith)
 counted-cons n x (Err f) = refl
 
-counted_start : (a : Answer (List ℕ)) → counted 0 a ≡ then length a
+pub counted_start : (a : Answer (List ℕ)) → counted 0 a ≡ then length a
 counted_start (Ok t) = ap Ok (omega arith)
 counted_start (Err f) = refl
 

@@ -1,15 +1,14 @@
 -- `find_best` meets its contract: the rows from the iterator's place on, and the best row before them, have the answer. Assumes nothing.
 use native.Mathlib.Omega.{arith}
-use mathlib.Core.Path.{refl, sym, ◌∙◌}
+use mathlib.Core.Path.{sym, ◌∙◌}
 use Prim.Native.Nat.{◌+◌}
-use Rattle.base.proofs.Tests.{same-by}
 use Rattle.rows.proofs.Seek.{value-fits, seek-good}
 use Rattle.rows.proofs.Turns.{turn-inside, turn-end, turn-bytes, turn-of}
 use Rattle.choice.specs.Step.{all_keys}
 use Rattle.choice.proofs.Ranks.{line_other}
 use Rattle.choice.proofs.Best.{Best, best-start, best-end, best-found, best-as, best-outside, best-stays, best-better}
 use Rattle.choice.proofs.find_best.Goals as goal
-use Rattle.choice.proofs.find_best.Goals.{Joined-inside, then-inside+then-starts_with+then-r-best, then-inside+then-starts_with+else-r-best, then-inside+else-starts_with, else-inside}
+use Rattle.choice.proofs.find_best.Goals.{Joined-inside, then-inside+then-begins+then-r-best, then-inside+then-begins+else-r-best, then-inside+else-begins, else-inside}
 
 pub is_inside-inside-requires : goal.is_inside-inside-requires
 is_inside-inside-requires c =
@@ -19,7 +18,7 @@ is_inside-inside-requires c =
 
 pub rank-r-requires : goal.rank-r-requires
 rank-r-requires c =
-    (c.requires.1, c.requires.2, c.requires.3, sym (same-by _ c.starts_with.ensures.value refl) ∙ c.if-starts_with.true)
+    (c.requires.1, c.requires.2, c.requires.3, sym c.begins.ensures ∙ c.if-begins.true)
 
 pub overflow_add-found : goal.overflow_add-found
 overflow_add-found c =
@@ -37,16 +36,16 @@ next c =
     let q = turn-end w.of t in
     let i = rw (turn-bytes w.of t) at c.is_inside-inside.ensures in
     elim c.if-inside.branch [
-      | then-inside+then-starts_with+then-r-best v ↦
+      | then-inside+then-begins+then-r-best v ↦
           best-as
           (best-better _ _ _ w.best h q i v.if-inside.true (rw (turn-bytes w.of t) at v.rank-r.ensures) v.if-r-best.true (rw (turn-bytes w.of t) at v.value_start.ensures))
           v.best-is (rw (t.number, t.start) at v.found-is)
-      | then-inside+then-starts_with+else-r-best v ↦
+      | then-inside+then-begins+else-r-best v ↦
           best-as (best-stays _ _ _ w.best h q i v.if-inside.true (rw (turn-bytes w.of t) at v.rank-r.ensures) v.if-r-best.false) v.best-is v.found-is
-      | then-inside+else-starts_with v ↦
+      | then-inside+else-begins v ↦
           best-as
           (best-stays _ _ _ w.best h q i v.if-inside.true
-          (rw (turn-bytes w.of t) at (line_other c.args.key.now c.args.locale.now c.requires.1 c.in-Some.row.bytes.now (sym (same-by _ v.starts_with.ensures.value refl) ∙ v.if-starts_with.false))) w.best.most)
+          (rw (turn-bytes w.of t) at (line_other c.args.key.now c.args.locale.now c.requires.1 c.in-Some.row.bytes.now (sym v.begins.ensures ∙ v.if-begins.false))) w.best.most)
           v.best-is v.found-is
       | else-inside v ↦ best-as (best-outside _ _ _ w.best h q i v.if-inside.false) v.best-is v.found-is
     ]

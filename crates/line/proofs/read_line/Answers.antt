@@ -1,9 +1,8 @@
 -- `read_line` meets its contract: the first byte says which case of the definition holds. Assumes nothing.
 use native.Mathlib.Omega.{arith}
-use native.Mathlib.Nat.{zero-add}
 use mathlib.Core.Path.{sym, ◌∙◌}
-use borrow.Author.Tests.{eq-eqb, ne_eqb}
-use Rattle.line.proofs.FirstByte.{line-empty, line-comment, header-line, line-blank, line-entry}
+use borrow.Author.Tests.{eq-eqb}
+use Rattle.line.proofs.FirstByte.{line-empty, line-comment, header-line, line-entry}
 use Rattle.line.proofs.read_line.Goals as goal
 
 pub returns-in-empty : goal.returns-in-empty
@@ -15,13 +14,8 @@ returns-in-35 c = line-comment c.args.s.now (omega arith) (omega arith)
 pub returns-in-91 : goal.returns-in-91
 returns-in-91 c = rw (header-line c.args.s.now (eq-eqb _ _ (omega arith))) c.read_header.ensures
 
-pub returns-then-blank-s : goal.returns-then-blank-s
-returns-then-blank-s c =
-    rw (line-blank c.args.s.now (omega arith) (λ e. omega arith) (λ e. omega arith) (sym c.is_in.ensures ∙ c.if-is_in.true), ← (c.span_end-blank.ensures ∙ zero-add _), eq-eqb _ _ c.if-blank-s.true)
-
-pub returns-else-blank-s : goal.returns-else-blank-s
-returns-else-blank-s c =
-    rw (line-blank c.args.s.now (omega arith) (λ e. omega arith) (λ e. omega arith) (sym c.is_in.ensures ∙ c.if-is_in.true), ← (c.span_end-blank.ensures ∙ zero-add _), ne_eqb _ _ c.if-blank-s.false)
+pub read_blank-requires : goal.read_blank-requires
+read_blank-requires c = (omega arith, sym c.is_in.ensures ∙ c.if-is_in.true)
 
 pub returns-in_default : goal.returns-in_default
 returns-in_default c = rw (line-entry c.args.s.now (omega arith) (λ e. omega arith) (λ e. omega arith) (sym c.is_in.ensures ∙ c.if-is_in.false)) c.read_entry.ensures

@@ -1,27 +1,27 @@
 -- `rows::is_joined` meets its contract: the parts are compared one by one. Assumes nothing.
-use mathlib.Core.Path.{◌≡◌, sym, ◌∙◌}
-use mathlib.Core.Bool.{Bool}
-use mathlib.Core.List.{List}
-use Prim.Native.Nat.{ℕ}
-use lib.Dec.{eqb}
+use mathlib.Core.Path.{sym, ◌∙◌}
+use mathlib.Core.Bool.{and-false, and-true}
 use lib.ListN.{length, take}
-use lib.Pointwise.{pointwise}
 use Rattle.base.specs.Lists.{same}
-use Rattle.base.proofs.Tests.{pointwise_same, same-sym}
-use Rattle.rows.proofs.Reading.{joined_same}
+use Rattle.base.proofs.Tests.{pointwise_same}
+use Rattle.base.proofs.Tail.{tail-lent}
+use Rattle.rows.proofs.Reading.{too_short, joined_same}
 use Rattle.rows.proofs.is_joined.Goals as goal
 
--- whether the first part stands at the front
-at-front : (f s : List ℕ) {t : Bool} → pointwise eqb (take (length f) s) f ≡ t → same f (take (length f) s) ≡ t
-at-front f s e = same-sym f (take (length f) s) ∙ sym (pointwise_same (take (length f) s) f) ∙ e
-
-pub returns-in_default : goal.returns-in_default
-returns-in_default c =
+pub returns-then-s-n : goal.returns-then-s-n
+returns-then-s-n c =
     let a = c.args in
-    sym (joined_same a.front.now a.rest.now a.s.now ∙ rw (at-front a.front.now a.s.now c.in_default.ensures.cases))
+    sym (joined_same a.front.now a.rest.now a.s.now ∙ rw (too_short a.front.now a.s.now c.if-s-n.true))
 
-pub returns : goal.returns
-returns c =
+pub returns-then-eq : goal.returns-then-eq
+returns-then-eq c =
     let a = c.args in
-    let h = c.in-Some.ensures.cases in
-    c.eq.ensures ∙ sym (joined_same a.front.now a.rest.now a.s.now ∙ rw (at-front a.front.now a.s.now h.0, ← h.1, pointwise_same))
+    c.begins.ensures
+    ∙ sym (joined_same a.front.now a.rest.now a.s.now ∙ rw (← tail-lent (length a.front.now) a.s.now, ← pointwise_same a.rest.now, ← c.eq.ensures, c.if-eq.true) (and-true _))
+
+pub returns-else-eq : goal.returns-else-eq
+returns-else-eq c =
+    let a = c.args in
+    c.if-eq.false
+    ∙ sym (joined_same a.front.now a.rest.now a.s.now
+    ∙ rw (← tail-lent (length a.front.now) a.s.now, ← pointwise_same a.rest.now, ← c.eq.ensures, c.if-eq.false) (and-false (same a.front.now (take (length a.front.now) a.s.now))))

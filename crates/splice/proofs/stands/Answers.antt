@@ -4,11 +4,13 @@ use mathlib.Core.Path.{◌∙◌}
 use Rattle.splice.proofs.Standing.{stands-outside, stands-begins}
 use Rattle.splice.proofs.stands.Goals as goal
 
-pub returns-in_default : goal.returns-in_default
-returns-in_default c = stands-outside _ _ _ (omega (arith, c.in_default.ensures.lookup.0))
+pub returns-then-file-place : goal.returns-then-file-place
+returns-then-file-place c = stands-outside _ _ _ (omega arith)
+
+pub returns-then-file-place-2 : goal.returns-then-file-place-2
+returns-then-file-place-2 c = stands-outside _ _ _ (omega arith)
 
 pub returns : goal.returns
 returns c =
     let a = c.args in
-    let h = c.in-Some.ensures.lookup.0 in
-    c.starts_with.ensures.value ∙ rw h.2 (stands-begins a.file.now a.place a.old.now (omega arith))
+    c.starts_with.ensures.value ∙ stands-begins a.file.now a.place a.old.now (omega arith)

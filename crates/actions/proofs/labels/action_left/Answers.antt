@@ -7,7 +7,6 @@ use lib.ListN.{length}
 use Rattle.base.specs.Lists.{part}
 use Rattle.fault.specs.Answer.{then}
 use Rattle.text.specs.Escape.{read_text}
-use Rattle.std.proofs.lemmas.Result.{err_from_is_err_and}
 use Rattle.fault.proofs.Answers.{then-refused}
 use Rattle.rows.specs.Rows.{read_rows}
 use Rattle.actions.specs.Actions.{action_group}
@@ -31,22 +30,20 @@ label_is c =
     let g = group-some (is_listed_at (read_rows a.file.now) a.raw.now a.i a.e) (part a.i a.e a.raw.now) c.group_at-group.ensures c.if-group-eq0.false in
     (g.0, c.label.ensures ∙ ap (label_value (read_rows a.file.now) a.locale.now) g.1)
 
-pub returns-in_err-n : goal.returns-in_err-n
+pub returns-in-Err : goal.returns-in-Err
 unfolding read_text
-returns-in_err-n c =
-    let w = label_is (goal.at.returns-in_err-n c).After-label in
+returns-in-Err c =
+    let w = label_is (goal.at.returns-in-Err c).After-label in
     let a = c.args in
     let v = label_value (read_rows a.file.now) a.locale.now (action_group (part a.i a.e a.raw.now)) in
-    let p = err_from_is_err_and c.from_residual.result c.from_residual.ensures.1 in
-    rw (p.1, p.2)
     (label-wrong (read_rows a.file.now) a.locale.now a.raw.now a.i a.e w.0 a.left
-    (then-refused length (read_text v) (sym c.in_err-n.was ∙ c.text_length.ensures ∙ ap (λ (x : List ℕ). then length (read_text x)) w.1)))
+    (then-refused length (read_text v) (sym c.in-Err.is ∙ c.text_length.ensures ∙ ap (λ (x : List ℕ). then length (read_text x)) w.1)))
 
-pub returns : goal.returns
+pub returns-in-Ok : goal.returns-in-Ok
 unfolding read_text
-returns c =
-    let w = label_is (goal.at.returns c).After-label in
+returns-in-Ok c =
+    let w = label_is (goal.at.returns-in-Ok c).After-label in
     let a = c.args in
     label-left (read_rows a.file.now) a.locale.now a.raw.now a.i a.e w.0 a.left c.requires.3 refl
-    (sym c.in_ok-n.was ∙ c.text_length.ensures ∙ ap (λ (x : List ℕ). then length (read_text x)) w.1)
-    c.spend.ensures c.spend-2.ensures c.spend-3.ensures
+    (sym c.in-Ok.is ∙ c.text_length.ensures ∙ ap (λ (x : List ℕ). then length (read_text x)) w.1)
+    c.spend.ensures c.spend-in-Ok.ensures c.spend-in-Ok-2.ensures
